@@ -1,0 +1,3 @@
+-- Laws that every other crate cites: on tests and lists, on ordered checks, on words and records of bytes.
+pub mod Lists
+pub mod Tests
