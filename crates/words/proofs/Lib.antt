@@ -1,0 +1,4 @@
+-- Laws that every other crate cites: on tests and lists, on ordered checks, on words and records of bytes.
+pub mod Lists
+pub mod Tests
+pub mod Checks

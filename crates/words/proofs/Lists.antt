@@ -1,0 +1,111 @@
+-- Laws on lists: facts of every element, maps, and runs of numbers.
+use mathlib.Core.Path.{_≡_, refl, ap, _∙_}
+use mathlib.Core.List.{List, [], _∷_}
+use Prim.Native.Nat.{ℕ, zero, suc, _+_, _-_, _≤_, _<_}
+use native.Mathlib.Nat.{le-of-suc-le-suc, not-suc-le-zero}
+use native.Mathlib.Numerals.{add-one}
+use native.Mathlib.Omega.{arith}
+use lib.ListN.{length, getD, take, drop}
+use lib.Seq.{drop-cons}
+use Rattle.words.specs.Lists.{All, Distinct, map, upFrom}
+
+-- ---- facts of every element
+module _ {A : Type 0} where
+  pub All-each : {P : A → Type 0} (xs : List A) → ((x : A) → P x) → All P xs
+  All-each [] h = tt
+  All-each (x ∷ xs) h = (h x, All-each xs h)
+
+  pub All-to : {P Q : A → Type 0} (xs : List A) → ((x : A) → P x → Q x) → All P xs → All Q xs
+  All-to [] h a = tt
+  All-to (x ∷ xs) h a = (h x (a .0), All-to xs h (a .1))
+
+  pub All-at : (P : A → Type 0) (xs : List A) (k : ℕ) (d : A) → k < length xs → All P xs → P (getD xs k d)
+  All-at P [] k d h a = absurd (not-suc-le-zero h)
+  All-at P (x ∷ xs) zero d h a = a .0
+  All-at P (x ∷ xs) (suc k) d h a = All-at P xs k d (le-of-suc-le-suc h) (a .1)
+
+-- ---- what is left of a list, from an index on
+module _ {A : Type 0} (xs : List A) (k : ℕ) (d : A) where
+  -- as a loop runs up
+  pub drop-next : k < length xs → drop k xs ≡ getD xs k d ∷ drop (k + 1) xs
+  drop-next h = rw add-one (drop-cons xs k d h)
+
+  -- as a loop runs down
+  pub drop-back : 0 < k → k ≤ length xs → drop (k - 1) xs ≡ getD xs (k - 1) d ∷ drop k xs
+  drop-back h l =
+      let e : suc (k - 1) ≡ k = omega arith in
+      drop-cons xs (k - 1) d (omega arith) ∙ ap (λ (n : ℕ). getD xs (k - 1) d ∷ drop n xs) e
+
+-- ---- maps
+module _ {A B : Type 0} (f : A → B) where
+  pub map-length : (xs : List A) → length (map f xs) ≡ length xs
+  map-length [] = refl
+  map-length (x ∷ xs) = ap suc (map-length xs)
+
+  pub map-at : (xs : List A) (k : ℕ) (d : A) (e : B) → k < length xs → getD (map f xs) k e ≡ f (getD xs k d)
+  map-at [] k d e h = absurd (not-suc-le-zero h)
+  map-at (x ∷ xs) zero d e h = refl
+  map-at (x ∷ xs) (suc k) d e h = map-at xs k d e (le-of-suc-le-suc h)
+
+  pub take-map : (k : ℕ) (xs : List A) → take k (map f xs) ≡ map f (take k xs)
+  take-map zero xs = refl
+  take-map (suc k) [] = refl
+  take-map (suc k) (x ∷ xs) = ap (λ (l : List B). f x ∷ l) (take-map k xs)
+
+  pub map-all : (P : B → Type 0) (xs : List A) → All (λ x. P (f x)) xs → All P (map f xs)
+  map-all P [] h = tt
+  map-all P (x ∷ xs) h = (h .0, map-all P xs (h .1))
+
+  pub map-same : (g : A → B) (xs : List A) → All (λ x. f x ≡ g x) xs → map f xs ≡ map g xs
+  map-same g [] h = refl
+  map-same g (x ∷ xs) h = λ j. h .0 j ∷ map-same g xs (h .1) j
+
+  pub map-comp : {C : Type 0} (g : B → C) (xs : List A) → map g (map f xs) ≡ map (λ x. g (f x)) xs
+  map-comp g [] = refl
+  map-comp {C} g (x ∷ xs) = ap (λ (l : List C). g (f x) ∷ l) (map-comp g xs)
+
+-- ---- runs of numbers
+pub up-length : (i n : ℕ) → length (upFrom i n) ≡ n
+up-length i zero = refl
+up-length i (suc n) = ap suc (up-length (suc i) n)
+
+pub up-within : (i n k : ℕ) → i + n ≤ k → All (λ x. (i ≤ x) × (x < k)) (upFrom i n)
+up-within i zero k h = tt
+up-within i (suc n) k h =
+    ((omega arith, omega arith), All-to (upFrom (suc i) n) (λ x s. (omega arith, s .1)) (up-within (suc i) n k (omega arith)))
+
+pub up-distinct : (i n : ℕ) → Distinct (upFrom i n)
+up-distinct i zero = tt
+up-distinct i (suc n) =
+    (All-to (upFrom (suc i) n) (λ x s e. omega arith) (up-within (suc i) n (suc i + n) (omega arith)), up-distinct (suc i) n)
+
+pub up-take : (i t n : ℕ) → t ≤ n → take t (upFrom i n) ≡ upFrom i t
+up-take i zero n h = refl
+up-take i (suc t) zero h = absurd (not-suc-le-zero h)
+up-take i (suc t) (suc n) h = ap (λ (l : List ℕ). i ∷ l) (up-take (suc i) t n (le-of-suc-le-suc h))
+
+pub up-at : (i n k : ℕ) → k < n → getD (upFrom i n) k 0 ≡ i + k
+up-at i zero k h = absurd (not-suc-le-zero h)
+up-at i (suc n) zero h = omega arith
+up-at i (suc n) (suc k) h = up-at (suc i) n k (le-of-suc-le-suc h) ∙ omega arith
+
+-- a loop that runs up: the number at k, and what follows it
+pub up-next : (i n k : ℕ) → k < n → upFrom (i + k) (n - k) ≡ (i + k) ∷ upFrom (i + (k + 1)) (n - (k + 1))
+up-next i n k h =
+    let e : n - k ≡ suc (n - (k + 1)) = omega arith in
+    let s : suc (i + k) ≡ i + (k + 1) = omega arith in
+    ap (upFrom (i + k)) e ∙ ap (λ (m : ℕ). (i + k) ∷ upFrom m (n - (k + 1))) s
+
+pub up-drop : (i n k : ℕ) → k ≤ n → drop k (upFrom i n) ≡ upFrom (i + k) (n - k)
+up-drop i n zero h = λ j. upFrom (start j) (rest j)
+  where
+    start : i ≡ i + 0
+    start = omega arith
+
+    rest : n ≡ n - 0
+    rest = omega arith
+up-drop i zero (suc k) h = absurd (not-suc-le-zero h)
+up-drop i (suc n) (suc k) h =
+    let e : suc i + k ≡ i + suc k = omega arith in
+    let r : n - k ≡ suc n - suc k = omega arith in
+    up-drop (suc i) n k (le-of-suc-le-suc h) ∙ (λ j. upFrom (e j) (r j))

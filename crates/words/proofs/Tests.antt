@@ -1,0 +1,107 @@
+-- Tests as facts, and facts as tests: choice, conjunction, a test of every element, absence and distinctness in a list.
+-- Then the turns of a loop that tests a list from an index on: next, where the element passes; stop, where it does not; end, past the last.
+use mathlib.Core.Path.{_≡_, refl, ap, _∙_}
+use mathlib.Core.Bool.{Bool, true, false, _&&_}
+use mathlib.Core.List.{List, [], _∷_}
+use Prim.Native.Nat.{ℕ, zero, suc, _+_, _<_}
+use native.Mathlib.Nat.{le-of-suc-le-suc, not-suc-le-zero}
+use native.Mathlib.Omega.{arith}
+use borrow.Author.Tests.{eq-eqb, ne-eqb, eqb-false}
+use lib.ListN.{length, getD, take, drop}
+use lib.Seq.{drop-length}
+use lib.Dec.{eqb}
+use Rattle.words.specs.Choice.{pick}
+use Rattle.words.specs.Lists.{All, Distinct, all, absent, noneTwice}
+use Rattle.words.proofs.Lists.{drop-next}
+
+pub false-true : false ≡ true → ⊥
+false-true e = let z : _≡_ {A = ℕ} 0 1 = cc in omega arith
+
+pub and-true : (a b : Bool) → a && b ≡ true → (a ≡ true) × (b ≡ true)
+and-true true b e = (refl, e)
+and-true false b e = absurd (false-true e)
+
+pub true-and : (a b : Bool) → a ≡ true → b ≡ true → a && b ≡ true
+true-and a b e f = ap (λ (x : Bool). x && b) e ∙ f
+
+module _ {A : Type 0} (b : Bool) (x y : A) where
+  pub pick-true : b ≡ true → pick b x y ≡ x
+  pick-true e = ap (λ (c : Bool). pick c x y) e
+
+  pub pick-false : b ≡ false → pick b x y ≡ y
+  pick-false e = ap (λ (c : Bool). pick c x y) e
+
+-- ---- a test of every element
+module _ {A : Type 0} (f : A → Bool) where
+  pub all-true : (xs : List A) → all f xs ≡ true → All (λ x. f x ≡ true) xs
+  all-true [] e = tt
+  all-true (x ∷ xs) e = let s = and-true (f x) (all f xs) e in (s .0, all-true xs (s .1))
+
+  pub true-all : (xs : List A) → All (λ x. f x ≡ true) xs → all f xs ≡ true
+  true-all [] h = refl
+  true-all (x ∷ xs) h = true-and (f x) (all f xs) (h .0) (true-all xs (h .1))
+
+  pub all-at : (xs : List A) (i : ℕ) (d : A) → i < length xs → all f xs ≡ true → f (getD xs i d) ≡ true
+  all-at [] i d h e = absurd (not-suc-le-zero h)
+  all-at (x ∷ xs) zero d h e = and-true (f x) (all f xs) e .0
+  all-at (x ∷ xs) (suc i) d h e = all-at xs i d (le-of-suc-le-suc h) (and-true (f x) (all f xs) e .1)
+
+  pub all-take : (k : ℕ) (xs : List A) → all f xs ≡ true → all f (take k xs) ≡ true
+  all-take zero xs e = refl
+  all-take (suc k) [] e = refl
+  all-take (suc k) (x ∷ xs) e =
+      let s = and-true (f x) (all f xs) e in
+      true-and (f x) (all f (take k xs)) (s .0) (all-take k xs (s .1))
+
+  module _ (xs : List A) (i : ℕ) (d : A) (h : i < length xs) where
+    pub all-next : f (getD xs i d) ≡ true → all f (drop i xs) ≡ all f (drop (i + 1) xs)
+    all-next e = rw (drop-next xs i d) (ap (λ (b : Bool). b && all f (drop (i + 1) xs)) e)
+
+    pub all-stop : f (getD xs i d) ≡ false → all f (drop i xs) ≡ false
+    all-stop e = rw (drop-next xs i d) (ap (λ (b : Bool). b && all f (drop (i + 1) xs)) e)
+
+  pub all-end : (xs : List A) (i : ℕ) → i ≡ length xs → all f (drop i xs) ≡ true
+  all-end xs i e = rw (e, drop-length)
+
+-- ---- a number that is not in a list
+module _ (x : ℕ) where
+  pub absent-true : (l : List ℕ) → absent x l ≡ true → All (λ y. x ≡ y → ⊥) l
+  absent-true [] e = tt
+  absent-true (y ∷ l) e = let s = apart (eqb x y) refl e in (eqb-false x y (s .0), absent-true l (s .1))
+    where
+      apart : (b : Bool) → eqb x y ≡ b → pick b false (absent x l) ≡ true → (eqb x y ≡ false) × (absent x l ≡ true)
+      apart true h e = absurd (false-true e)
+      apart false h e = (h, e)
+
+  pub true-absent : (l : List ℕ) → All (λ y. x ≡ y → ⊥) l → absent x l ≡ true
+  true-absent [] h = refl
+  true-absent (y ∷ l) h = pick-false (eqb x y) false (absent x l) (ne-eqb x y (h .0)) ∙ true-absent l (h .1)
+
+  module _ (l : List ℕ) (i : ℕ) (h : i < length l) where
+    pub absent-next : (x ≡ getD l i 0 → ⊥) → absent x (drop i l) ≡ absent x (drop (i + 1) l)
+    absent-next n = rw (drop-next l i 0) (pick-false (eqb x (getD l i 0)) false (absent x (drop (i + 1) l)) (ne-eqb x (getD l i 0) n))
+
+    pub absent-stop : x ≡ getD l i 0 → absent x (drop i l) ≡ false
+    absent-stop e = rw (drop-next l i 0) (pick-true (eqb x (getD l i 0)) false (absent x (drop (i + 1) l)) (eq-eqb x (getD l i 0) e))
+
+  pub absent-end : (l : List ℕ) (i : ℕ) → i ≡ length l → absent x (drop i l) ≡ true
+  absent-end l i e = rw (e, drop-length)
+
+-- ---- no number twice
+pub distinct-true : (l : List ℕ) → noneTwice l ≡ true → Distinct l
+distinct-true [] e = tt
+distinct-true (x ∷ l) e = let s = and-true (absent x l) (noneTwice l) e in (absent-true x l (s .0), distinct-true l (s .1))
+
+pub true-distinct : (l : List ℕ) → Distinct l → noneTwice l ≡ true
+true-distinct [] d = refl
+true-distinct (x ∷ l) d = true-and (absent x l) (noneTwice l) (true-absent x l (d .0)) (true-distinct l (d .1))
+
+module _ (l : List ℕ) (i : ℕ) (h : i < length l) where
+  pub twice-next : absent (getD l i 0) (drop (i + 1) l) ≡ true → noneTwice (drop i l) ≡ noneTwice (drop (i + 1) l)
+  twice-next e = rw (drop-next l i 0) (ap (λ (b : Bool). b && noneTwice (drop (i + 1) l)) e)
+
+  pub twice-stop : absent (getD l i 0) (drop (i + 1) l) ≡ false → noneTwice (drop i l) ≡ false
+  twice-stop e = rw (drop-next l i 0) (ap (λ (b : Bool). b && noneTwice (drop (i + 1) l)) e)
+
+pub twice-end : (l : List ℕ) (i : ℕ) → i ≡ length l → noneTwice (drop i l) ≡ true
+twice-end l i e = rw (e, drop-length)
