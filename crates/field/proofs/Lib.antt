@@ -1,2 +1,3 @@
 -- Proofs of what specs/Claims.antt states, and the laws that they and the code's proofs share.
 pub mod Modular
+pub mod Primality
