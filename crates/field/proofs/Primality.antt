@@ -8,7 +8,7 @@ use native.Mathlib.Decide.{decLe}
 use native.Mathlib.Omega.{arith}
 use lib.Dec.{T, ltb, ltb→lt}
 use Rattle.words.specs.Choice.{pick}
-use Rattle.field.specs.Prime.{Prime, undivided, trialDivision}
+use Rattle.field.specs.Prime.{undivided}
 use Rattle.field.specs.Claims.{TrialDivision}
 
 both : (a b : Bool) → T (a && b) → T a × T b
