@@ -2,3 +2,4 @@
 pub mod Lists
 pub mod Tests
 pub mod Checks
+pub mod Bytes

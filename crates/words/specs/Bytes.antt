@@ -1,7 +1,7 @@
 -- Words of 32 bits as four bytes, the most significant first, and records of eight words.
 use mathlib.Core.List.{List, [], _∷_, _++_}
 use Prim.Native.Nat.{ℕ, _+_, _*_, _/_, _%_, _^_, _<_}
-use lib.ListN.{getD}
+use lib.ListN.{length, getD, take, drop}
 use Rattle.words.specs.Lists.{Below}
 use Rattle.words.specs.declared.Record.{Record}
 
@@ -21,6 +21,10 @@ wordBytes w = w / 16777216 % 256 ∷ w / 65536 % 256 ∷ w / 256 % 256 ∷ w % 2
 unfoldable pub wordsBytes : List ℕ → List ℕ
 wordsBytes [] = []
 wordsBytes (w ∷ ws) = wordBytes w ++ wordsBytes ws
+
+-- the list with the bytes bs from the place k on
+unfoldable pub putAt : ℕ → List ℕ → List ℕ → List ℕ
+putAt k bs l = take k l ++ bs ++ drop (k + length bs) l
 
 -- the words of a record in order
 abbrev pub recordWords : Record → List ℕ
