@@ -2,3 +2,4 @@
 pub mod Modular
 pub mod Primality
 pub mod Inverse
+pub mod Residues
