@@ -9,12 +9,13 @@ use native.Mathlib.Decide.{Fin·val-path, Fin-discrete}
 use native.Mathlib.Omega.{arith}
 use lib.ListN.{length}
 use Rattle.words.specs.Lists.{All, Distinct, Below, map}
+use Rattle.words.proofs.Lists.{All-each, map-all}
 use Rattle.field.specs.Residue.{add, mul, neg, inv}
 use Rattle.field.specs.Prime.{Prime}
 use Rattle.field.specs.Algebra.{Ops, Field}
 use Rattle.field.specs.Claims.{ResidueField, ResiduesAreField}
 use Rattle.field.proofs.Modular as M
-use Rattle.field.proofs.Inverse.{positive, inv-below, mul-inv}
+use Rattle.field.proofs.Inverses.{positive, inv-below, mul-inv}
 
 module _ (m : ℕ) (P : Prime m) where
   abbrev ops : Ops (Fin m)
@@ -92,3 +93,7 @@ module _ {m : ℕ} (R : ResidueField m) where
 
   pub lift-nonzero : (xs : List ℕ) (h : Below m xs) → All (λ x. x ≡ 0 → ⊥) xs → All (λ a. a ≡ R .ops .zero → ⊥) (lift xs h)
   lift-nonzero xs h n = lift-all _ _ (λ a n e. n (ap (R .number) e ∙ R .keeps .at-zero)) xs h n
+
+  -- the numbers of residues are below m
+  pub numbers-below : (xs : List (R .Residue)) → Below m (map (R .number) xs)
+  numbers-below xs = map-all (R .number) (λ x. x < m) xs (All-each xs (R .below))
