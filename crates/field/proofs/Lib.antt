@@ -3,3 +3,4 @@ pub mod Modular
 pub mod Primality
 pub mod Inverses
 pub mod Residues
+pub mod Loops
