@@ -1,4 +1,6 @@
 -- Proofs of what specs/Claims.antt states, and the laws that they and the code's proofs share.
 pub mod Modular
 pub mod Primality
-pub mod Inverse
+pub mod Inverses
+pub mod Residues
+pub mod Loops

@@ -2,7 +2,7 @@
 use mathlib.Core.Path.{_≡_, sym, _∙_, ap}
 use Prim.Native.Nat.{ℕ, _+_, _-_, _*_, _%_, _^_, _≤_, _<_}
 use native.Mathlib.Nat as N
-use native.Mathlib.Nat.{mod-lt, mod-mod, mod-self, mod-eq-of-lt, mod-add-mod, add-mod-mod, add-mod-right, div-add-mod, mul-add-mod-self-left, mul-le-mul-left, mul-lt-mul-of-pos-right, le-of-lt, lt-of-le-of-lt}
+use native.Mathlib.Nat.{mod-lt, mod-mod, mod-self, mod-eq-of-lt, mod-add-mod, add-mod-mod, add-mod-right, div-add-mod, mul-add-mod-self-left, mul-le-mul}
 use native.Mathlib.Decide.{decLe}
 use native.Mathlib.Omega.{arith}
 use Rattle.field.specs.Residue.{add, mul, neg, sub}
@@ -78,11 +78,21 @@ module _ (m : ℕ) where
   unfolding sub
   sub-below a b h = mod-lt _ h
 
--- ---- differences of numbers below m
+-- ---- sums and differences of numbers below m, with no remainder to take
 module _ (m a b : ℕ) (h : a < m) (k : b < m) where
-  pub sub-le : b ≤ a → sub m a b ≡ a - b
+  pub add-lt : a + b < m → add m a b ≡ a + b
+  unfolding add
+  add-lt l = mod-eq-of-lt l
+
+  pub add-ge : m ≤ a + b → add m a b ≡ b - (m - a)
+  unfolding add
+  add-ge l =
+      let s : a + b ≡ b - (m - a) + m = omega arith in
+      rw (s, add-mod-right) (mod-eq-of-lt (omega arith))
+
+  pub sub-ge : b ≤ a → sub m a b ≡ a - b
   unfolding sub
-  sub-le l =
+  sub-ge l =
       let s : a + (m - b) ≡ a - b + m = omega arith in
       rw (mod-eq-of-lt k, s, add-mod-right) (mod-eq-of-lt (omega arith))
 
@@ -93,8 +103,13 @@ module _ (m a b : ℕ) (h : a < m) (k : b < m) where
       rw (mod-eq-of-lt k, s) (mod-eq-of-lt (omega arith))
 
   pub sub-pos : (a ≡ b → ⊥) → 0 < sub m a b
-  sub-pos n = elim (decLe b a) [ yes l ↦ rw (sub-le l) (omega arith) | no l ↦ rw (sub-lt (omega arith)) (omega arith) ]
+  sub-pos n = elim (decLe b a) [ yes l ↦ rw (sub-ge l) (omega arith) | no l ↦ rw (sub-lt (omega arith)) (omega arith) ]
 
--- the product of two words fits 64 bits
+-- ---- a word and a product of two words fit 64 bits
+pub sum-fits : {a b c : ℕ} → c < 2 ^ 32 → a < 2 ^ 32 → b < 2 ^ 32 → c + a * b < 2 ^ 64
+sum-fits {a} {b} l h k =
+    let s : a * b ≤ 4294967295 * 4294967295 = mul-le-mul {n₂ = 4294967295} {m₂ = 4294967295} (omega arith) (omega arith) in
+    omega arith
+
 pub product-fits : {a b : ℕ} → a < 2 ^ 32 → b < 2 ^ 32 → a * b < 2 ^ 64
-product-fits {a} {b} h k = lt-of-le-of-lt (mul-le-mul-left a (le-of-lt k)) (mul-lt-mul-of-pos-right h (omega arith))
+product-fits h k = omega (arith, sum-fits {c = 0} (omega arith) h k)
