@@ -12,7 +12,7 @@ use Rattle.words.specs.Choice.{pick}
 use Rattle.field.specs.Residue.{mul}
 use Rattle.field.proofs.Modular.{mul-mod-left, mul-mod-right, mul-mod, mul-one}
 use Rattle.group.specs.Power.{pow, halvesPower}
-use Rattle.group.specs.Claims.{HalvesPower}
+use Rattle.group.specs.Claims.{HalvesPower, ProductOfPowers}
 
 -- ---- powers of numbers
 one-pow : (e : ℕ) → 1 ^ e ≡ 1
@@ -62,10 +62,6 @@ module _ (p : ℕ) where
   unfolding pow
   pow-product b i j = rw (pow-mul, pow-mod)
 
-  pub pow-bases : (a b e : ℕ) → pow p (mul p a b) e ≡ mul p (pow p a e) (pow p b e)
-  unfolding pow mul
-  pow-bases a b e = rw (pow-mod, mul-pow, mul-mod)
-
   -- ---- from half the exponent
   pub pow-even : (b e : ℕ) → e % 2 ≡ 0 → mul p (pow p b (e / 2)) (pow p b (e / 2)) ≡ pow p b e
   pow-even b e h =
@@ -76,6 +72,10 @@ module _ (p : ℕ) where
   pow-odd b e h =
       let s : suc (e / 2 + e / 2) ≡ e = omega arith in
       ap (λ (x : ℕ). mul p x b) (sym (pow-sum b (e / 2) (e / 2))) ∙ sym (pow-next b (e / 2 + e / 2)) ∙ ap (pow p b) s
+
+pub product-of-powers : ProductOfPowers
+unfolding pow mul
+product-of-powers p v w e = rw (pow-mod, mul-pow, mul-mod)
 
 -- ---- a base whose power q is 1: exponents count modulo q
 module _ (p q b : ℕ) (h : 1 < p) (order : pow p b q ≡ 1) where
