@@ -32,10 +32,9 @@ PowerOfProduct =
     (G : Group) → Proper G → (v a e : ℕ) → isElement G v ≡ true
     → pow (G .p) v (mul (G .q) a e) ≡ pow (G .p) (pow (G .p) v a) e
 
--- the power of a product of elements is the product of their powers
+-- the power of a product is the product of the powers
 abbrev pub ProductOfPowers : Type 0
-ProductOfPowers =
-    (G : Group) → (v w e : ℕ) → pow (G .p) (mul (G .p) v w) e ≡ mul (G .p) (pow (G .p) v e) (pow (G .p) w e)
+ProductOfPowers = (p v w e : ℕ) → pow p (mul p v w) e ≡ mul p (pow p v e) (pow p w e)
 
 -- ---- equal powers have equal exponents modulo q
 abbrev pub SamePower : Type 0

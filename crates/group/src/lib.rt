@@ -1,14 +1,13 @@
-// Groups of prime order inside the residues modulo a prime, and powers in them.
+// Groups of prime order inside the residues modulo a prime: their table, and the operation power.
 ghost use mathlib.Core.Path.{_≡_};
-ghost use mathlib.Core.Bool.{Bool, true, false};
-ghost use Prim.Native.Nat.{_<_};
-ghost use Rattle.words.specs.Lists.{all};
-ghost use Rattle.field.specs.Residue.{add, sub, mul, inv};
-ghost use Rattle.field.specs.Prime.{Prime};
-ghost use Rattle.group.specs.Power.{pow};
-ghost use Rattle.group.specs.Element.{isElement, isExponent};
 ghost use Rattle.group.specs.Table.{groupOutcomeOf, groupOutcome};
 ghost use Rattle.group.specs.Answer.{powerOutcomeOf, powerOutcome};
+
+mod arithmetic;
+mod membership;
+
+pub use arithmetic::raise;
+pub use membership::{all_elements, all_exponents, is_element, is_exponent};
 
 // A residue modulo q.
 pub struct Exponent(pub u32);
@@ -59,4 +58,20 @@ pub fn group_of(number: u32) -> GroupAnswer
         }),
         _ => GroupAnswer::Refused(1),
     }
+}
+
+// An element to the power of an exponent. Refused: 1 no group of that number; 6 the base is no element; 7 the exponent is not below q.
+pub fn power(number: u32, base: Element, exponent: Exponent) -> PowerAnswer
+    ensures { λ r. ⌜ powerOutcomeOf r ≡ powerOutcome number base exponent ⌝ }
+{
+    let GroupAnswer::Value(gr) = group_of(number) else {
+        return PowerAnswer::Refused(1);
+    };
+    if !is_element(gr, base) {
+        return PowerAnswer::Refused(6);
+    }
+    if !is_exponent(gr, exponent) {
+        return PowerAnswer::Refused(7);
+    }
+    PowerAnswer::Value(base.power(gr, exponent))
 }

@@ -1,0 +1,5 @@
+-- Proofs of what specs/Claims.antt states, and the laws that they and the code's proofs share.
+pub mod Powers
+pub mod Elements
+pub mod Logarithm
+pub mod Table

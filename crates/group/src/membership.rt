@@ -1,0 +1,51 @@
+// Tests of posted figures: whether a number is an element, or an exponent, and whether each of a list is.
+ghost use mathlib.Core.Path.{_≡_};
+ghost use Rattle.words.specs.Lists.{all};
+ghost use Rattle.group.specs.Element.{isElement, isExponent};
+
+use crate::arithmetic::raise;
+use crate::{Element, Exponent, Group};
+
+pub fn is_element(gr: Group, v: Element) -> bool
+    ensures { λ r. ⌜ r ≡ isElement gr (v .0) ⌝ }
+{
+    if v.0 < 1 {
+        return false;
+    }
+    if v.0 >= gr.p {
+        return false;
+    }
+    raise(gr.p, v, Exponent(gr.q)).0 == 1
+}
+
+pub fn is_exponent(gr: Group, e: Exponent) -> bool
+    ensures { λ r. ⌜ r ≡ isExponent gr (e .0) ⌝ }
+{
+    e.0 < gr.q
+}
+
+pub fn all_elements(gr: Group, vs: &[u32]) -> bool
+    ensures { λ r. ⌜ r ≡ all (isElement gr) (now (vs .entry)) ⌝ }
+{
+    let mut i = 0;
+    while i < vs.len() {
+        if !is_element(gr, Element(vs[i])) {
+            return false;
+        }
+        i += 1;
+    }
+    true
+}
+
+pub fn all_exponents(gr: Group, es: &[u32]) -> bool
+    ensures { λ r. ⌜ r ≡ all (isExponent gr) (now (es .entry)) ⌝ }
+{
+    let mut i = 0;
+    while i < es.len() {
+        if !is_exponent(gr, Exponent(es[i])) {
+            return false;
+        }
+        i += 1;
+    }
+    true
+}
