@@ -1,0 +1,54 @@
+// Replays the cases on standard input: calls each case's operation and prints its answer on a line.
+//
+// A case has a header of eight words: the operation's number, six arguments and the payload's length in bytes.
+// The payload follows.
+mod digest;
+mod power;
+mod print;
+
+use libc::STDIN_FILENO;
+use words::Record;
+
+// Reads `count` bytes to the start of `space`. False where they do not fit or the input ends before.
+fn read_payload(space: &mut [u8], count: usize) -> bool {
+    if space.len() < count {
+        return false;
+    }
+    io::read_full(STDIN_FILENO, &mut space[0..count]) == count
+}
+
+// Calls the operation of a case whose payload is the first `count` bytes of `space`. False where it cannot.
+fn run(case: Record, space: &mut [u8], count: usize) -> bool {
+    let operation = case.w0;
+    match operation {
+        1 => digest::run(case, space, count),
+        2 => power::run(case),
+        _ => false,
+    }
+}
+
+// Replays one case. False at the end of the input, and after a case that cannot be read or called.
+fn replay() -> bool {
+    let mut header = [0u8; 32];
+    let got = io::read_full(STDIN_FILENO, &mut header);
+    if got == 0 {
+        return false;
+    }
+    let case = words::read_record(&header);
+    let count = case.w7 as usize;
+    // The longest payload is a board with one record too many.
+    let mut space = [0u8; 65568];
+    if got == 32 && read_payload(&mut space, count) && run(case, &mut space, count) {
+        return true;
+    }
+    print::text(b"no case\n");
+    false
+}
+
+// The turns are counted, since nothing says that the input ends.
+fn main() {
+    let mut turns = u32::MAX;
+    while turns > 0 && replay() {
+        turns -= 1;
+    }
+}

@@ -1,0 +1,35 @@
+// The lines of the output: an operation's name, and its value or `refused` and the number.
+use libc::STDOUT_FILENO;
+use words::Record;
+
+pub fn text(t: &[u8]) {
+    io::write_all(STDOUT_FILENO, t);
+}
+
+pub fn number(name: &[u8], n: u32) {
+    text(name);
+    io::print_decimal(STDOUT_FILENO, n as u64);
+    text(b"\n");
+}
+
+pub fn refused(name: &[u8], k: u32) {
+    text(name);
+    number(b"refused ", k);
+}
+
+fn word(w: u32) {
+    io::print_hex(STDOUT_FILENO, w as u64, 8);
+}
+
+pub fn digest(name: &[u8], d: Record) {
+    text(name);
+    word(d.w0);
+    word(d.w1);
+    word(d.w2);
+    word(d.w3);
+    word(d.w4);
+    word(d.w5);
+    word(d.w6);
+    word(d.w7);
+    text(b"\n");
+}

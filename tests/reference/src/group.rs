@@ -1,0 +1,86 @@
+//! The groups, their elements, and the power operation.
+
+use crate::answer::{require, Answer};
+use crate::modular;
+
+/// The generators, the same in every group.
+pub const G: u32 = 4;
+pub const H: u32 = 9;
+
+/// A group: the powers of 4 modulo the prime p = 2q + 1, where q is prime.
+pub struct Group {
+    pub p: u32,
+    pub q: u32,
+}
+
+/// The group of a number: 1 group not 1 to 3.
+pub fn group(number: u32) -> Answer<Group> {
+    let q = match number {
+        1 => 11,
+        2 => 1019,
+        3 => 2_147_483_543,
+        _ => return Err(1),
+    };
+    Ok(Group { p: 2 * q + 1, q })
+}
+
+impl Group {
+    pub fn power(&self, base: u32, exponent: u32) -> u32 {
+        modular::power(base, exponent, self.p)
+    }
+
+    pub fn is_element(&self, v: u32) -> bool {
+        0 < v && v < self.p && self.power(v, self.q) == 1
+    }
+}
+
+/// The operation: 1; 6 base no element; 7 exponent at least q.
+pub fn power(number: u32, base: u32, exponent: u32) -> Answer<u32> {
+    let group = group(number)?;
+    require(group.is_element(base), 6)?;
+    require(exponent < group.q, 7)?;
+    Ok(group.power(base, exponent))
+}
+
+#[cfg(test)]
+mod tests {
+    use super::*;
+    use crate::primes::is_prime;
+
+    #[test]
+    fn both_moduli_are_prime() {
+        for number in 1..=3 {
+            let Group { p, q } = group(number).unwrap();
+            assert!(is_prime(p.into()) && is_prime(q.into()));
+        }
+    }
+
+    #[test]
+    fn elements_are_the_powers_of_each_generator() {
+        for number in 1..=2 {
+            let group = group(number).unwrap();
+            let mut elements: Vec<u32> = (0..=group.p + 4).collect();
+            elements.retain(|&v| group.is_element(v));
+            for generator in [G, H] {
+                let powers = (0..group.q).map(|exponent| group.power(generator, exponent));
+                let mut powers: Vec<u32> = powers.collect();
+                powers.sort();
+                assert_eq!(powers, elements);
+            }
+        }
+    }
+
+    #[test]
+    fn figures_by_hand() {
+        assert_eq!(group(1).unwrap().power(22, 11), 22);
+        assert_eq!(power(1, 22, 2), Err(6));
+        assert_eq!(power(1, 4, 10), Ok(6));
+        assert_eq!(power(1, 4, 11), Err(7));
+    }
+
+    #[test]
+    fn the_first_fault_counts() {
+        assert_eq!(power(4, 0, u32::MAX), Err(1));
+        assert_eq!(power(1, 22, 11), Err(6));
+    }
+}

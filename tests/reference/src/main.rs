@@ -1,0 +1,60 @@
+//! The second program. It has the product's operations written again from the papers, shares no code and no table
+//! with the product, and writes the vectors that the product is run on.
+
+mod answer;
+mod group;
+mod modular;
+mod numbers;
+mod primes;
+mod sha256;
+mod vectors;
+
+use std::error::Error;
+use std::path::Path;
+use std::process::ExitCode;
+use std::{env, fs};
+
+type Done = Result<(), Box<dyn Error>>;
+
+const USAGE: &str = "usage: reference vectors DIR | largest | digest FILE";
+
+/// The primes p and q of group 3: the largest below 2^32.
+fn largest() -> (u64, u64) {
+    primes::largest_safe_prime(1 << 32)
+}
+
+/// Writes the program's input and its expected output to `stdin` and `stdout` in a folder.
+fn write_vectors(folder: &Path) -> Done {
+    if !group::group(3).is_ok_and(|group| (group.p.into(), group.q.into()) == largest()) {
+        return Err("group 3 is not the largest below 2^32".into());
+    }
+    let vectors = vectors::all();
+    fs::write(folder.join("stdin"), vectors.stdin)?;
+    fs::write(folder.join("stdout"), vectors.stdout)?;
+    Ok(())
+}
+
+fn run(words: &[String]) -> Done {
+    let words: Vec<&str> = words.iter().map(String::as_str).collect();
+    match words[..] {
+        ["vectors", folder] => write_vectors(Path::new(folder))?,
+        ["largest"] => {
+            let (p, q) = largest();
+            println!("{p} {q}");
+        }
+        ["digest", file] => println!("{}", vectors::hex(&sha256::sha256(&fs::read(file)?))),
+        _ => return Err(USAGE.into()),
+    }
+    Ok(())
+}
+
+fn main() -> ExitCode {
+    let words: Vec<String> = env::args().skip(1).collect();
+    match run(&words) {
+        Ok(()) => ExitCode::SUCCESS,
+        Err(error) => {
+            eprintln!("reference: {error}");
+            ExitCode::FAILURE
+        }
+    }
+}

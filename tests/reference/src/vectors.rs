@@ -1,0 +1,93 @@
+//! The vectors: the input of the Rattle program `vectors`, and the text that it has to print.
+//!
+//! The input is a sequence of cases. A case has a header of eight words, the most significant byte first: the
+//! operation's number, six arguments (0 where the operation has fewer) and the payload's length in bytes. The payload
+//! follows. Where an operation has more figures than the header holds, they are the first words of its payload.
+//! The text has a line for each case: the operation's name, and its value or `refused` with its number.
+
+pub mod digest;
+mod power;
+
+use crate::answer::Answer;
+
+/// An operation as the cases name it.
+struct Operation {
+    number: u32,
+    name: &'static str,
+}
+
+#[derive(Default)]
+pub struct Vectors {
+    pub stdin: Vec<u8>,
+    pub stdout: String,
+}
+
+impl Vectors {
+    /// Adds a case with what the operation answers to it.
+    fn add(
+        &mut self,
+        operation: &Operation,
+        arguments: &[u32],
+        payload: &[u8],
+        answer: Answer<String>,
+    ) {
+        let mut header = [0; 8];
+        header[0] = operation.number;
+        header[1..7][..arguments.len()].copy_from_slice(arguments);
+        header[7] = payload.len() as u32;
+        for word in header {
+            self.stdin.extend(word.to_be_bytes());
+        }
+        self.stdin.extend(payload);
+        let answer = answer.unwrap_or_else(|number| format!("refused {number}"));
+        self.stdout += &format!("{} {answer}\n", operation.name);
+    }
+}
+
+/// Every case, operation by operation.
+pub fn all() -> Vectors {
+    let mut vectors = Vectors::default();
+    digest::add(&mut vectors);
+    power::add(&mut vectors);
+    vectors
+}
+
+/// Two hexadecimal digits for each byte.
+pub fn hex(bytes: &[u8]) -> String {
+    bytes.iter().map(|byte| format!("{byte:02x}")).collect()
+}
+
+#[cfg(test)]
+mod tests {
+    use super::*;
+
+    #[test]
+    fn a_case_is_a_header_and_its_payload() {
+        let operation = Operation {
+            number: 5,
+            name: "test",
+        };
+        let mut vectors = Vectors::default();
+        vectors.add(&operation, &[1, 258], &[7, 8, 9], Ok(hex(&[10, 255])));
+        vectors.add(&operation, &[], &[], Err(3));
+        let mut expected = vec![0, 0, 0, 5, 0, 0, 0, 1, 0, 0, 1, 2];
+        expected.extend([0; 16]);
+        expected.extend([0, 0, 0, 3, 7, 8, 9, 0, 0, 0, 5]);
+        expected.extend([0; 28]);
+        assert_eq!(vectors.stdin, expected);
+        assert_eq!(vectors.stdout, "test 0aff\ntest refused 3\n");
+    }
+
+    #[test]
+    fn every_case_has_a_line() {
+        let vectors = all();
+        let mut rest = &vectors.stdin[..];
+        let mut cases = 0;
+        while !rest.is_empty() {
+            let length = u32::from_be_bytes(rest[28..32].try_into().unwrap());
+            rest = &rest[32 + length as usize..];
+            cases += 1;
+        }
+        assert_eq!(vectors.stdout.lines().count(), cases);
+    }
+}

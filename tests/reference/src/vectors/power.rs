@@ -1,0 +1,80 @@
+//! Cases of the power. The arguments are group, base and exponent.
+
+use super::{Operation, Vectors};
+use crate::group::{group, power, Group, G, H};
+use crate::numbers::Numbers;
+
+const POWER: Operation = Operation {
+    number: 2,
+    name: "power",
+};
+
+pub fn add(vectors: &mut Vectors) {
+    figures(vectors);
+    for number in [0, 4, u32::MAX] {
+        grid(vectors, number, &[0, 4, u32::MAX], &[0, 3, u32::MAX]);
+    }
+    let bases: Vec<u32> = (0..=30).collect();
+    let exponents: Vec<u32> = (0..=15).collect();
+    grid(vectors, 1, &bases, &exponents);
+    let mut numbers = Numbers::new(2);
+    for (number, count) in [(1, 0), (2, 40), (3, 80)] {
+        let group = group(number).expect("a group from 1 to 3");
+        edges(vectors, number, &group);
+        for _ in 0..count {
+            varied(vectors, number, &group, &mut numbers);
+        }
+    }
+}
+
+fn case(vectors: &mut Vectors, number: u32, base: u32, exponent: u32) {
+    let answer = power(number, base, exponent).map(|value| value.to_string());
+    vectors.add(&POWER, &[number, base, exponent], &[], answer);
+}
+
+/// The figures by hand.
+fn figures(vectors: &mut Vectors) {
+    for (base, exponent) in [(4, 10), (4, 11), (22, 2)] {
+        case(vectors, 1, base, exponent);
+    }
+}
+
+/// Each base with each exponent, so that two faults also meet.
+fn grid(vectors: &mut Vectors, number: u32, bases: &[u32], exponents: &[u32]) {
+    for &base in bases {
+        for &exponent in exponents {
+            case(vectors, number, base, exponent);
+        }
+    }
+}
+
+/// Bases and exponents around 0, q and p.
+fn edges(vectors: &mut Vectors, number: u32, &Group { p, q }: &Group) {
+    let bases = [
+        0,
+        1,
+        2,
+        G,
+        H,
+        q,
+        p - H,
+        p - G,
+        p - 1,
+        p,
+        p + 1,
+        p + G,
+        u32::MAX,
+    ];
+    let exponents = [0, 1, 2, q / 2, q - 2, q - 1, q, q + 1, p - 1, p, u32::MAX];
+    grid(vectors, number, &bases, &exponents);
+}
+
+/// An element, its negative (which is none, since -1 is none) and any residue with an exponent below q, and the
+/// element with any exponent.
+fn varied(vectors: &mut Vectors, number: u32, group: &Group, numbers: &mut Numbers) {
+    let element = group.power(G, numbers.below(group.q));
+    for base in [element, group.p - element, numbers.below(group.p)] {
+        case(vectors, number, base, numbers.below(group.q));
+    }
+    case(vectors, number, element, numbers.word());
+}
