@@ -11,6 +11,7 @@ use Rattle.words.specs.declared.Record.{Record}
 use Rattle.field.specs.Residue.{mul}
 use Rattle.field.specs.Polynomial.{valueAt}
 use Rattle.group.specs.Power.{pow}
+use Rattle.group.specs.declared.Element.{Element}
 use Rattle.sharing.specs.Round.{groupIn, members}
 use Rattle.sharing.specs.Answer.{openingOutcome, recovered}
 use Rattle.sharing.specs.Carried.{Carries, secretOf}
@@ -55,13 +56,15 @@ pub record VerdictRule (J : Judges) (R : Round) (b : List ℕ) (d : ℕ) : Type 
   -- n lines: what the judge of dealings answers
   pub judged : (k : ℕ) → lineCount b d ≡ R .n → dealingAnswer J R b d ≡ refused k → verdictOn J R b d ≡ Refused k
   pub accepted : isAccepted J R b d ≡ true → verdictOn J R b d ≡ Accepted (secretBy J R b d)
-  -- opened exactly where a right opening stands on the board; the secret is h to it
-  pub opened : isAccepted J R b d ≡ true → RightlyOpened R b d
-      → (i : ℕ) × (RightlyOpened R b d) × (verdictOn J R b d ≡ Accepted (Opened (record { 0 = pow (groupIn R .p) (groupIn R .h .0) (recordAt b i .w3) })))
-  -- recovered exactly where no opening is right and t or more shares are accepted; the t lowest members serve
+  -- opened where the board's kind 3 record of the dealer holds an accepted opening, and only there; the secret is h to it
+  pub opened : isAccepted J R b d ≡ true → (o : RightlyOpened R b d)
+      → verdictOn J R b d ≡ Accepted (Opened (record { 0 = pow (groupIn R .p) (groupIn R .h .0) (recordAt b (o .0) .w3) }))
+  pub opened-only : (v : Element) → verdictOn J R b d ≡ Accepted (Opened v) → RightlyOpened R b d
+  -- recovered where no opening is right and t or more shares are accepted, and only there; the t lowest members serve
   pub recovers : isAccepted J R b d ≡ true → (RightlyOpened R b d → ⊥) → R .t ≤ length (sharesBy J R b d)
       → verdictOn J R b d ≡ Accepted (Recovered (record { 0 =
           recovered (groupIn R) (map (λ i. recordAt b i .w2) (take (R .t) (sharesBy J R b d))) (map (λ i. recordAt b i .w3) (take (R .t) (sharesBy J R b d))) }))
+  pub recovers-only : (v : Element) → verdictOn J R b d ≡ Accepted (Recovered v) → (RightlyOpened R b d → ⊥) × (R .t ≤ length (sharesBy J R b d))
   -- stuck exactly where no opening is right and fewer than t shares are accepted
   pub stuck : isAccepted J R b d ≡ true
       → (verdictOn J R b d ≡ Accepted Stuck) ↔ ((RightlyOpened R b d → ⊥) × (length (sharesBy J R b d) < R .t))
