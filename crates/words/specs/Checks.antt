@@ -43,3 +43,8 @@ FirstUnmet k (c ∷ cs) = ((c .met ≡ false) × (c .number ≡ k)) ⊎ ((c .met
 -- no check refuses by the number 0, which says that nothing is refused
 abbrev pub Numbered : List Check → Type 0
 Numbered cs = All (λ (c : Check). 0 < c .number) cs
+
+-- what a lent buffer holds afterwards: the new where every check is met, else the old
+abbrev pub lentAfter : {A : Type 0} → List Check → A → A → A
+lentAfter [] new old = new
+lentAfter (c ∷ cs) new old = pick (c .met) (lentAfter cs new old) old

@@ -1,0 +1,100 @@
+-- The board's records: their form and order, the keys, a dealer's lines and opening, and what is refused before verdicts.
+use mathlib.Core.Bool.{Bool, true, false, not, _&&_}
+use mathlib.Core.List.{List, [], _∷_, _++_}
+use Prim.Native.Nat.{ℕ, zero, suc, _+_, _-_, _*_, _%_}
+use lib.ListN.{length, take, drop}
+use lib.Dec.{leb, ltb, eqb}
+use Rattle.words.specs.Choice.{pick}
+use Rattle.words.specs.Lists.{map, all}
+use Rattle.words.specs.Checks.{Check, _unless_, refusal, lentAfter}
+use Rattle.words.specs.declared.Record.{Record}
+use Rattle.sharing.specs.Round.{groupIn, roundChecks, isMember, members}
+use Rattle.sharing.specs.declared.Round.{Round}
+use Rattle.dealing.specs.Records.{isKeyRecord, isLineRecord, isOpeningRecord, isShareRecord, recordAt, isKey}
+use Rattle.board.specs.Search.{first, recordsIn}
+
+-- ---- form and order
+-- a record of the table: its kind known, its dealer and member in range or 0 as the table has it, its spare words zero
+unfoldable pub isShaped : ℕ → Record → Bool
+isShaped n r =
+    pick (isKeyRecord r) (isMember n (r .w2))
+    (pick (isLineRecord r) (isMember n (r .w1) && isMember n (r .w2))
+    (pick (isOpeningRecord r) (isMember n (r .w1))
+    (pick (isShareRecord r) (isMember n (r .w1) && isMember n (r .w2)) false)))
+
+-- s is above r: by kind, then dealer, then member
+unfoldable pub isAbove : Record → Record → Bool
+isAbove r s =
+    pick (eqb (r .w0) (s .w0))
+    (pick (eqb (r .w1) (s .w1)) (ltb (r .w2) (s .w2)) (ltb (r .w1) (s .w1)))
+    (ltb (r .w0) (s .w0))
+
+-- record by record, for m records from the record i on: 4, and then 5
+abbrev pub recordChecks : ℕ → List ℕ → ℕ → ℕ → List Check
+recordChecks n b i zero = []
+recordChecks n b i (suc m) =
+    4 unless isShaped n (recordAt b i)
+    ∷ 5 unless pick (eqb i 0) true (isAbove (recordAt b (i - 1)) (recordAt b i))
+    ∷ recordChecks n b (suc i) m
+
+-- whole records, at most 2,048, each in form and above the one before
+abbrev pub formChecks : ℕ → List ℕ → List Check
+formChecks n b = 3 unless (eqb (length b % 32) 0 && leb (recordsIn b) 2048) ∷ recordChecks n b 0 (recordsIn b)
+
+-- ---- keys
+-- the record i has the kind k
+abbrev pub isKind : List ℕ → ℕ → ℕ → Bool
+isKind b k i = eqb (recordAt b i .w0) k
+
+unfoldable pub isKeyOf : List ℕ → ℕ → ℕ → Bool
+isKeyOf b m i = isKind b 1 i && eqb (recordAt b i .w2) m
+
+-- the record of the key of member m
+unfoldable pub keyRecord : List ℕ → ℕ → ℕ
+keyRecord b m = first (isKeyOf b m) 0 (recordsIn b)
+
+unfoldable pub keyIn : List ℕ → ℕ → ℕ
+keyIn b m = recordAt b (keyRecord b m) .w3
+
+abbrev pub keysIn : ℕ → List ℕ → List ℕ
+keysIn n b = map (keyIn b) (members n)
+
+-- ---- what is refused before verdicts: 1, 2; 3; record by record 4 and 5; 12 a key missing; 6 a bad key
+abbrev pub boardChecks : Round → List ℕ → List Check
+boardChecks R b =
+    roundChecks R ++ (formChecks (R .n) b ++
+    (12 unless all (λ m. ltb (keyRecord b m) (recordsIn b)) (members (R .n))
+    ∷ 6 unless all (isKey (groupIn R)) (keysIn (R .n) b)
+    ∷ []))
+
+-- ---- a dealer's lines
+unfoldable pub isLineBy : List ℕ → ℕ → ℕ → Bool
+isLineBy b d i = isKind b 2 i && eqb (recordAt b i .w1) d
+
+unfoldable pub linesStart : List ℕ → ℕ → ℕ
+linesStart b d = first (isLineBy b d) 0 (recordsIn b)
+
+unfoldable pub linesEnd : List ℕ → ℕ → ℕ
+linesEnd b d = first (λ i. not (isLineBy b d i)) (linesStart b d) (recordsIn b - linesStart b d)
+
+unfoldable pub lineCount : List ℕ → ℕ → ℕ
+lineCount b d = linesEnd b d - linesStart b d
+
+-- the part of the board that holds them
+unfoldable pub linesOf : List ℕ → ℕ → List ℕ
+linesOf b d = take (32 * linesEnd b d - 32 * linesStart b d) (drop (32 * linesStart b d) b)
+
+-- the checks of both operations on a dealer's lines
+abbrev pub linesChecks : Round → ℕ → List ℕ → List Check
+linesChecks R d b = roundChecks R ++ (8 unless isMember (R .n) d ∷ formChecks (R .n) b)
+
+-- the part that is handed back: empty where a check refuses
+unfoldable pub linesPart : Round → ℕ → List ℕ → List ℕ
+linesPart R d b = lentAfter (linesChecks R d b) (linesOf b d) []
+
+-- ---- a dealer's opening
+unfoldable pub isOpeningBy : List ℕ → ℕ → ℕ → Bool
+isOpeningBy b d i = isKind b 3 i && eqb (recordAt b i .w1) d
+
+unfoldable pub openingRecord : List ℕ → ℕ → ℕ
+openingRecord b d = first (isOpeningBy b d) 0 (recordsIn b)

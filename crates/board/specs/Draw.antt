@@ -1,0 +1,93 @@
+-- The count of accepted dealings, the draw value, and the board judge's answer.
+use mathlib.Core.Path.{_≡_}
+use mathlib.Core.Bool.{Bool, true, false}
+use mathlib.Core.List.{List, [], _∷_}
+use Prim.Native.Nat.{ℕ, _+_}
+use lib.ListN.{replicate}
+use lib.Dec.{leb, ltb, eqb}
+use Rattle.words.specs.Choice.{pick}
+use Rattle.words.specs.Lists.{map, upFrom}
+use Rattle.words.specs.Checks.{Check, _unless_, Outcome, value, refused, refusal, outcome}
+use Rattle.field.specs.Residue.{mul}
+use Rattle.group.specs.declared.Element.{Element}
+use Rattle.sharing.specs.Round.{groupIn, members}
+use Rattle.sharing.specs.declared.Round.{Round}
+use Rattle.board.specs.Board.{boardChecks}
+use Rattle.board.specs.Verdict.{Judges, judges, verdictOn, verdictsOn}
+use Rattle.board.specs.declared.Secret.{Secret}
+use Rattle.board.specs.declared.Secret.the-variants.{Opened, Recovered, Stuck}
+use Rattle.board.specs.declared.Verdict.{Verdict}
+use Rattle.board.specs.declared.Verdict.the-variants.{None, Refused, Accepted}
+use Rattle.board.specs.declared.Seat.{Seat}
+use Rattle.board.specs.declared.Judged.{Judged}
+use Rattle.board.specs.declared.Draw.{Draw}
+use Rattle.board.specs.declared.Draw.the-variants as draw-variants
+
+-- ---- over the verdicts
+-- 1 for an accepted dealing, stuck or not
+abbrev pub countOne : Verdict → ℕ
+countOne None = 0
+countOne (Refused k) = 0
+countOne (Accepted s) = 1
+
+abbrev pub countAccepted : List Verdict → ℕ
+countAccepted [] = 0
+countAccepted (v ∷ vs) = countOne v + countAccepted vs
+
+abbrev pub isStuck : Verdict → Bool
+isStuck None = false
+isStuck (Refused k) = false
+isStuck (Accepted (Opened v)) = false
+isStuck (Accepted (Recovered v)) = false
+isStuck (Accepted Stuck) = true
+
+abbrev pub anyStuck : List Verdict → Bool
+anyStuck [] = false
+anyStuck (v ∷ vs) = pick (isStuck v) true (anyStuck vs)
+
+-- a secret's value; a stuck one has none
+abbrev pub secretValue : Secret → ℕ
+secretValue (Opened v) = v .0
+secretValue (Recovered v) = v .0
+secretValue Stuck = 1
+
+abbrev pub timesSecret : ℕ → Verdict → ℕ → ℕ
+timesSecret p None x = x
+timesSecret p (Refused k) x = x
+timesSecret p (Accepted s) x = mul p (secretValue s) x
+
+-- the product modulo p of the secrets of all accepted dealings
+abbrev pub secretsProduct : ℕ → List Verdict → ℕ
+secretsProduct p [] = 1
+secretsProduct p (v ∷ vs) = timesSecret p v (secretsProduct p vs)
+
+-- ---- the draw: 14 fewer than t accepted, then 13 a stuck dealing
+abbrev pub drawChecks : ℕ → List Verdict → List Check
+drawChecks t vs = 14 unless leb t (countAccepted vs) ∷ 13 unless pick (anyStuck vs) false true ∷ []
+
+unfoldable pub drawOf : ℕ → ℕ → List Verdict → Outcome Element
+drawOf p t vs = outcome (drawChecks t vs) (record { 0 = secretsProduct p vs })
+
+-- the draw of a board, or the refusal before its verdicts
+unfoldable pub drawOn : Judges → Round → List ℕ → Outcome Element
+drawOn J R b =
+    pick (eqb (refusal (boardChecks R b)) 0)
+    (drawOf (groupIn R .p) (R .t) (verdictsOn J R b))
+    (refused (refusal (boardChecks R b)))
+
+-- ---- the board judge's answer, case by case
+abbrev pub drawOutcomeOf : Draw → Outcome Element
+drawOutcomeOf (draw-variants.Value v) = value v
+drawOutcomeOf (draw-variants.Refused k) = refused k
+
+-- the seats of 31 dealers, of whom the first n have a verdict
+abbrev pub seatOf : (ℕ → Verdict) → ℕ → ℕ → Seat
+seatOf w n d = record { verdict = pick (leb d n) (w d) None }
+
+unfoldable pub seatsOf : (ℕ → Verdict) → ℕ → List Seat
+seatsOf w n = map (seatOf w n) (upFrom 1 31)
+
+pub record JudgedAs (J : Judges) (R : Round) (b : List ℕ) (A : Judged) : Type 0 where
+  pub seats : A .seats ≡ pick (eqb (refusal (boardChecks R b)) 0) (seatsOf (verdictOn J R b) (R .n)) (replicate 31 (record { verdict = None }))
+  pub accepted : A .accepted ≡ pick (eqb (refusal (boardChecks R b)) 0) (countAccepted (verdictsOn J R b)) 0
+  pub draw : drawOutcomeOf (A .draw) ≡ drawOn J R b

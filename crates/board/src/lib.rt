@@ -1,0 +1,33 @@
+// The board: its shape, a dealer's lines, verdicts, the draw value and the text that reports them.
+use group::Element;
+
+// How the secret of an accepted dealing came.
+pub enum Secret {
+    Opened(Element),
+    Recovered(Element),
+    Stuck,
+}
+
+pub enum Verdict {
+    None,
+    Refused(u32),
+    Accepted(Secret),
+}
+
+// A dealer's verdict, as an array holds it.
+pub struct Seat {
+    pub verdict: Verdict,
+}
+
+// The beacon's output, or the number of the refusal.
+pub enum Draw {
+    Value(Element),
+    Refused(u32),
+}
+
+// Every dealer's verdict (dealer d at d - 1, those above n None), the count of accepted dealings, and the draw.
+pub struct Judged {
+    pub seats: [Seat; 31],
+    pub accepted: u32,
+    pub draw: Draw,
+}
