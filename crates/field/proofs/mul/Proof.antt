@@ -1,8 +1,6 @@
 -- `field::mul` meets its contract: the product fits 64 bits, and its remainder is below m.
 use mathlib.Core.Path.{refl}
-use Prim.Native.Nat.{_*_}
-use native.Mathlib.Nat.{mod-lt}
-use native.Mathlib.Omega.{arith}
+use native.Mathlib.Nat.{mod-lt, lt-trans}
 use borrow.Author.Needs.{needs}
 use Rattle.field.specs.Residue.{mul}
 use Rattle.field.proofs.Modular.{product-fits}
@@ -16,7 +14,7 @@ rem-result : tie.Need-rem-result
 rem-result c = search needs
 
 cast-result : tie.Need-cast-result
-cast-result c = omega (arith, mod-lt (c .args .a * c .args .b) {m = c .args .m} (omega arith))
+cast-result c = record { fits = lt-trans (mod-lt _ (c .pre)) (search needs) }
 
 returns : tie.Need-returns
 unfolding mul
