@@ -1,6 +1,6 @@
--- Words and records of bytes: lengths, a word read past a front, inside a front or inside a part, what is written and what stays.
--- What is written reads back, and what is read writes back, by induction over the words of a run of bytes.
-use mathlib.Core.Path.{_≡_, refl, sym, ap, _∙_, subst}
+-- Laws of words and records of bytes: their lengths, a word read in a longer list or in a part, bytes put into a list.
+-- A record that is written reads back and 32 bytes that are read write back, both by induction over a run of words.
+use mathlib.Core.Path.{_≡_, refl, sym, ap, _∙_}
 use mathlib.Core.List.{List, [], _∷_, _++_, append-assoc, append-nil}
 use Prim.Native.Nat.{ℕ, zero, suc, _+_, _*_, _/_, _%_, _^_, _<_, _≤_}
 use native.Mathlib.Nat.{mod-eq-of-lt}
@@ -8,7 +8,7 @@ use native.Mathlib.Omega.{arith}
 use borrow.Rule.Slice.PartMut.{putMid}
 use lib.ListN.{length, getD, take, drop, set, length-append, length-drop, List·getD-append}
 use lib.Seq.{length-take-le, sets-eq, take-at, take-all, drop-length, drop-cons, drop-drop, getD-append-add, getD-take, getD-drop}
-use Rattle.words.specs.Lists.{All, Below}
+use Rattle.words.specs.Lists.{Below}
 use Rattle.words.specs.Bytes.{word, wordAt, wordBytes, wordsBytes, putAt, recordWords, recordBytes, recordIn}
 use Rattle.words.specs.Claims.{ReadBack, WriteBack}
 use Rattle.words.specs.declared.Record.{Record}
@@ -27,7 +27,8 @@ pub record-length : (r : Record) → length (recordBytes r) ≡ 32
 unfolding recordBytes
 record-length r = words-length (recordWords r)
 
--- ---- a word by its four bytes
+-- ---- words read
+-- a word is told by its four bytes
 word-same : (b c : List ℕ) (k m : ℕ) → ((i : ℕ) → i < 4 → getD b (k + i) 0 ≡ getD c (m + i) 0) → wordAt b k ≡ wordAt c m
 unfolding wordAt
 word-same b c k m h = λ j. word (first j) (h 1 (omega arith) j) (h 2 (omega arith) j) (h 3 (omega arith) j)
@@ -36,14 +37,14 @@ word-same b c k m h = λ j. word (first j) (h 1 (omega arith) j) (h 2 (omega ari
     first = let s : k + 0 ≡ k = omega arith in let t : m + 0 ≡ m = omega arith in rw (s, t) at (h 0 (omega arith))
 
 module _ (xs ys : List ℕ) (k : ℕ) where
-  -- past a front
+  -- past the first list
   pub word-append : wordAt (xs ++ ys) (length xs + k) ≡ wordAt ys k
   word-append = word-same (xs ++ ys) ys (length xs + k) k (λ i h. byte i)
     where
       byte : (i : ℕ) → getD (xs ++ ys) (length xs + k + i) 0 ≡ getD ys (k + i) 0
       byte i = let e : length xs + k + i ≡ length xs + (k + i) = omega arith in rw e (getD-append-add xs ys (k + i) 0)
 
-  -- in the front
+  -- in the first list
   pub word-front : k + 4 ≤ length xs → wordAt (xs ++ ys) k ≡ wordAt xs k
   word-front l = word-same (xs ++ ys) xs k k (λ i h. List·getD-append xs ys 0 (k + i) (omega arith))
 
@@ -136,11 +137,12 @@ wordsFrom k zero b = []
 wordsFrom k (suc n) b = wordAt b k ∷ wordsFrom (k + 4) n b
 
 -- words written one after the other from the place k on
-abbrev pub putWords : ℕ → List ℕ → List ℕ → List ℕ
+abbrev putWords : ℕ → List ℕ → List ℕ → List ℕ
 putWords k [] l = l
 putWords k (w ∷ ws) l = putWords (k + 4) ws (putAt k (wordBytes w) l)
 
-pub put-words : (k : ℕ) (ws l : List ℕ) → length l ≡ k + 4 * length ws → putWords k ws l ≡ take k l ++ wordsBytes ws
+-- they stand behind the first k bytes
+put-words : (k : ℕ) (ws l : List ℕ) → length l ≡ k + 4 * length ws → putWords k ws l ≡ take k l ++ wordsBytes ws
 unfolding wordsBytes
 put-words k [] l h = sym (append-nil (take k l) ∙ take-all k l (omega arith))
 put-words k (w ∷ ws) l h =
@@ -150,18 +152,17 @@ put-words k (w ∷ ws) l h =
     ∙ ap (λ (x : List ℕ). x ++ wordsBytes ws) (ap (λ (n : ℕ). take n (putAt k (wordBytes w) l)) (sym e) ∙ put-take k (wordBytes w) l f)
     ∙ append-assoc (take k l) (wordBytes w) (wordsBytes ws)
 
+-- words that are written read back
 words-read : (xs ws : List ℕ) → Below (2 ^ 32) ws → wordsFrom (length xs) (length ws) (xs ++ wordsBytes ws) ≡ ws
 unfolding wordsBytes
 words-read xs [] h = refl
 words-read xs (w ∷ ws) h =
+    let bs = xs ++ (wordBytes w ++ wordsBytes ws) in
     let z : length xs ≡ length xs + 0 = omega arith in
+    let first : wordAt bs (length xs) ≡ w = ap (wordAt bs) z ∙ word-append xs (wordBytes w ++ wordsBytes ws) 0 ∙ word-back w (wordsBytes ws) (h .0) in
     let e : length xs + 4 ≡ length (xs ++ wordBytes w) = omega (arith, length-append xs (wordBytes w), word-length w) in
-    let a : xs ++ (wordBytes w ++ wordsBytes ws) ≡ (xs ++ wordBytes w) ++ wordsBytes ws = sym (append-assoc xs (wordBytes w) (wordsBytes ws)) in
-    let first : wordAt (xs ++ (wordBytes w ++ wordsBytes ws)) (length xs) ≡ w =
-        ap (wordAt (xs ++ (wordBytes w ++ wordsBytes ws))) z ∙ word-append xs (wordBytes w ++ wordsBytes ws) 0 ∙ word-back w (wordsBytes ws) (h .0) in
-    let others : wordsFrom (length xs + 4) (length ws) (xs ++ (wordBytes w ++ wordsBytes ws)) ≡ ws =
-        (λ j. wordsFrom (e j) (length ws) (a j)) ∙ words-read (xs ++ wordBytes w) ws (h .1) in
-    λ j. first j ∷ others j
+    let a : bs ≡ (xs ++ wordBytes w) ++ wordsBytes ws = sym (append-assoc xs (wordBytes w) (wordsBytes ws)) in
+    λ j. first j ∷ ((λ i. wordsFrom (e i) (length ws) (a i)) ∙ words-read (xs ++ wordBytes w) ws (h .1)) j
 
 bytes-back : (b : List ℕ) (k : ℕ) → Below 256 b → wordBytes (wordAt b k) ≡ getD b k 0 ∷ getD b (k + 1) 0 ∷ getD b (k + 2) 0 ∷ getD b (k + 3) 0 ∷ []
 unfolding wordAt wordBytes
@@ -186,6 +187,7 @@ four-next b k h =
     next : (i m : ℕ) → m ≡ suc i → i < length b → drop i b ≡ getD b i 0 ∷ drop m b
     next i m e l = rw e (drop-cons b i 0 l)
 
+-- bytes that are read write back
 words-write : (k n : ℕ) (b : List ℕ) → length b ≡ k + 4 * n → Below 256 b → wordsBytes (wordsFrom k n b) ≡ drop k b
 unfolding wordsBytes
 words-write k zero b h l = let e : length b ≡ k = omega arith in sym (ap (λ (i : ℕ). drop i b) (sym e) ∙ drop-length b)
@@ -199,12 +201,12 @@ record-same r s e =
     λ j. record { w0 = getD (e j) 0 0; w1 = getD (e j) 1 0; w2 = getD (e j) 2 0; w3 = getD (e j) 3 0; w4 = getD (e j) 4 0; w5 = getD (e j) 5 0; w6 = getD (e j) 6 0; w7 = getD (e j) 7 0 }
 
 -- eight words put one after the other into 32 bytes
-pub record-put : (r : Record) (l a b c d e f g h : List ℕ) → length l ≡ 32
+pub record-put : (r : Record) (l : List ℕ) {a b c d e f g h : List ℕ} → length l ≡ 32
     → a ≡ putAt 0 (wordBytes (r .w0)) l → b ≡ putAt 4 (wordBytes (r .w1)) a → c ≡ putAt 8 (wordBytes (r .w2)) b → d ≡ putAt 12 (wordBytes (r .w3)) c
     → e ≡ putAt 16 (wordBytes (r .w4)) d → f ≡ putAt 20 (wordBytes (r .w5)) e → g ≡ putAt 24 (wordBytes (r .w6)) f → h ≡ putAt 28 (wordBytes (r .w7)) g
     → h ≡ recordBytes r
 unfolding recordBytes
-record-put r l a b c d e f g h n p0 p1 p2 p3 p4 p5 p6 p7 = cc (put-words 0 (recordWords r) l n)
+record-put r l n p0 p1 p2 p3 p4 p5 p6 p7 = cc (put-words 0 (recordWords r) l n)
 
 pub read-back : ReadBack
 unfolding recordBytes recordIn

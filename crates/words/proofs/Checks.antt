@@ -8,9 +8,8 @@ use Prim.Native.Nat.{ℕ, _<_}
 use native.Mathlib.Omega.{arith}
 use borrow.Author.Tests.{ltb-true}
 use lib.Dec.{ltb}
-use Rattle.words.specs.Choice.{pick}
-use Rattle.words.specs.Lists.{All, all}
-use Rattle.words.specs.Checks.{Check, Outcome, value, refused, refusal, outcome, Met, FirstUnmet, Numbered}
+use Rattle.words.specs.Lists.{all}
+use Rattle.words.specs.Checks.{Check, value, refused, refusal, outcome, Met, FirstUnmet, Numbered}
 use Rattle.words.specs.Claims.{ValueExactly, RefusedExactly, NoneExactly, FirstExactly}
 use Rattle.words.proofs.Lists.{All-to}
 use Rattle.words.proofs.Tests.{all-true, pick-true, pick-false}

@@ -1,8 +1,7 @@
 -- Words of 32 bits as four bytes, the most significant first, and records of eight words.
 use mathlib.Core.List.{List, [], _∷_, _++_}
-use Prim.Native.Nat.{ℕ, _+_, _*_, _/_, _%_, _^_, _<_}
+use Prim.Native.Nat.{ℕ, _+_, _*_, _/_, _%_}
 use lib.ListN.{length, getD, take, drop}
-use Rattle.words.specs.Lists.{Below}
 use Rattle.words.specs.declared.Record.{Record}
 
 -- the word of four bytes

@@ -1,12 +1,12 @@
 -- What is claimed of checks and of bytes. The proofs are in proofs/Checks.antt and proofs/Bytes.antt.
 use mathlib.Core.Path.{_≡_}
-use mathlib.Core.List.{List, _++_}
+use mathlib.Core.List.{List}
 use mathlib.Core.Logic.{_↔_}
-use Prim.Native.Nat.{ℕ, _+_, _^_, _<_, _≤_}
-use lib.ListN.{length, drop}
+use Prim.Native.Nat.{ℕ, _^_, _<_}
+use lib.ListN.{length}
 use Rattle.words.specs.Lists.{Below}
-use Rattle.words.specs.Checks.{Check, Outcome, value, refused, refusal, outcome, Met, FirstUnmet, Numbered}
-use Rattle.words.specs.Bytes.{wordAt, recordWords, recordBytes, recordIn}
+use Rattle.words.specs.Checks.{Check, value, refused, refusal, outcome, Met, FirstUnmet, Numbered}
+use Rattle.words.specs.Bytes.{recordWords, recordBytes, recordIn}
 use Rattle.words.specs.declared.Record.{Record}
 
 -- ---- checks in their order

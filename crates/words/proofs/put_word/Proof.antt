@@ -1,3 +1,4 @@
+-- `put_word` meets its contract: four stores put the four bytes of the word (`stores`).
 use native.Mathlib.Omega.{arith}
 use borrow.Author.Needs.{needs}
 use lib.ListN.{length-set}
@@ -5,58 +6,43 @@ use Rattle.words.specs.Bytes.{wordBytes}
 use Rattle.words.proofs.Bytes.{stores}
 use Rattle.words.proofs.put_word.Statement.{statement}
 use Rattle.words.proofs.put_word.Tie as tie
-use Rattle.words.proofs.put_word.Reads as reads
-use Rattle.words.proofs.put_word.Lts as lts
 
--- src/lib.rt:39:12
 cast-b : tie.Need-cast-b
 cast-b c = search needs
 
--- src/lib.rt:39:5
 slice-write-b : tie.Need-slice-write-b
 slice-write-b c = search needs
 
--- src/lib.rt:40:16
 cast-b-2 : tie.Need-cast-b-2
 cast-b-2 c = search needs
 
--- src/lib.rt:40:7
 add-b : tie.Need-add-b
 add-b c = search needs
 
--- src/lib.rt:40:5
 slice-write-b-2 : tie.Need-slice-write-b-2
 slice-write-b-2 c = simp length-set (omega arith)
 
--- src/lib.rt:41:16
 cast-b-3 : tie.Need-cast-b-3
 cast-b-3 c = search needs
 
--- src/lib.rt:41:7
 add-b-2 : tie.Need-add-b-2
 add-b-2 c = search needs
 
--- src/lib.rt:41:5
 slice-write-b-3 : tie.Need-slice-write-b-3
 slice-write-b-3 c = simp length-set (omega arith)
 
--- src/lib.rt:42:16
 cast-b-4 : tie.Need-cast-b-4
 cast-b-4 c = search needs
 
--- src/lib.rt:42:7
 add-b-3 : tie.Need-add-b-3
 add-b-3 c = search needs
 
--- src/lib.rt:42:5
 slice-write-b-4 : tie.Need-slice-write-b-4
 slice-write-b-4 c = simp length-set (omega arith)
 
--- src/lib.rt:35:1
 same-length : tie.Need-same-length
 same-length c = search needs
 
--- src/lib.rt:35:1
 returns : tie.Need-returns
 unfolding wordBytes
 returns c = stores _ _ _ _ _ _ (c .pre)

@@ -1,49 +1,37 @@
+-- `write_record` meets its contract: eight words put one after the other fill the 32 bytes (`record-put`).
 use borrow.Author.Needs.{needs}
 use denote.Ref.{now}
 use Rattle.words.proofs.Bytes.{record-put}
 use Rattle.words.proofs.write_record.Statement.{statement}
 use Rattle.words.proofs.write_record.Tie as tie
-use Rattle.words.proofs.write_record.Reads as reads
-use Rattle.words.proofs.write_record.Lts as lts
-use Rattle.words.proofs.put_word.Reads as put-word-reads
 
--- src/lib.rt:67:5
 put-word-requires : tie.Need-put-word-requires
 put-word-requires c κs = search needs
 
--- src/lib.rt:68:5
 put-word-requires-2 : tie.Need-put-word-requires-2
 put-word-requires-2 c κs = search needs
 
--- src/lib.rt:69:5
 put-word-requires-3 : tie.Need-put-word-requires-3
 put-word-requires-3 c κs = search needs
 
--- src/lib.rt:70:5
 put-word-requires-4 : tie.Need-put-word-requires-4
 put-word-requires-4 c κs = search needs
 
--- src/lib.rt:71:5
 put-word-requires-5 : tie.Need-put-word-requires-5
 put-word-requires-5 c κs = search needs
 
--- src/lib.rt:72:5
 put-word-requires-6 : tie.Need-put-word-requires-6
 put-word-requires-6 c κs = search needs
 
--- src/lib.rt:73:5
 put-word-requires-7 : tie.Need-put-word-requires-7
 put-word-requires-7 c κs = search needs
 
--- src/lib.rt:74:5
 put-word-requires-8 : tie.Need-put-word-requires-8
 put-word-requires-8 c κs = search needs
 
--- src/lib.rt:63:1
 same-length : tie.Need-same-length
 same-length c = search needs
 
--- src/lib.rt:63:1
 returns : tie.Need-returns
 returns c =
     let s8 = c .before .before in
@@ -55,8 +43,9 @@ returns c =
     let s2 = s3 .before .before .before .before in
     let s1 = s2 .before .before .before .before in
     let s = s1 .before .before .before in
-    record-put (s .args .r) (now (s .args .b)) _ _ _ _ _ _ _ _ (s .pre)
-    (s1 .put-word .ensures) (s2 .put-word2 .ensures) (s3 .put-word3 .ensures) (s4 .put-word4 .ensures) (s5 .put-word5 .ensures) (s6 .put-word6 .ensures) (s7 .put-word7 .ensures) (s8 .put-word8 .ensures)
+    record-put (s .args .r) (now (s .args .b)) (s .pre)
+    (s1 .put-word .ensures) (s2 .put-word2 .ensures) (s3 .put-word3 .ensures) (s4 .put-word4 .ensures)
+    (s5 .put-word5 .ensures) (s6 .put-word6 .ensures) (s7 .put-word7 .ensures) (s8 .put-word8 .ensures)
 
 pub write-record-spec : {M : Type 1} → statement M
 write-record-spec =
