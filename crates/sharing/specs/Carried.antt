@@ -50,6 +50,11 @@ pub record Quorum (R : Round) (ms : List ℕ) : Type 0 where
   pub enough : R .t ≤ length ms
 
 -- ---- check polynomials
+-- n - t coefficients below q, the constant first
+pub record CheckPolynomial (R : Round) (ds : List ℕ) : Type 0 where
+  pub size : length ds ≡ R .n - R .t
+  pub low : Below (groupIn R .q) ds
+
 abbrev pub Passes : Round → List ℕ → List ℕ → Type 0
 Passes R vs cs = degreeOutcome R vs cs ≡ value tt
 
@@ -76,8 +81,10 @@ place R vs = lowest (λ k. isValue (degreeOutcome R vs (unitAt k (R .n - R .t)))
 abbrev pub AgreeOff : ℕ → List ℕ → List ℕ → Type 0
 AgreeOff k cs ds = (j : ℕ) → (j ≡ k → ⊥) → getD cs j 0 ≡ getD ds j 0
 
--- for exponents es of the commitments, the sum of e_i, its weight and i to the power k, for each place k
+-- for exponents es of the commitments: the sum of e_i times its weight times i to the power k, and these sums for each place k
+unfoldable pub sumAt : Round → List ℕ → ℕ → ℕ
+sumAt R es k =
+    divided (residueOps (groupIn R .q)) (members (R .n)) (scaled (residueOps (groupIn R .q)) k (members (R .n)) es)
+
 unfoldable pub sumsAt : Round → List ℕ → List ℕ
-sumsAt R es =
-    map (λ k. divided (residueOps (groupIn R .q)) (members (R .n)) (scaled (residueOps (groupIn R .q)) k (members (R .n)) es))
-    (upFrom 0 (R .n - R .t))
+sumsAt R es = map (sumAt R es) (upFrom 0 (R .n - R .t))

@@ -4,7 +4,7 @@ use mathlib.Core.Path.{_≡_}
 use mathlib.Core.List.{List}
 use mathlib.Core.Logic.{_↔_}
 use Prim.Native.Nat.{ℕ, _-_, _<_}
-use lib.ListN.{length, getD}
+use lib.ListN.{getD}
 use Rattle.words.specs.Lists.{Below, map}
 use Rattle.words.specs.Checks.{value, refused, Met}
 use Rattle.field.specs.Residue.{residueOps}
@@ -12,7 +12,7 @@ use Rattle.field.specs.Polynomial.{dot}
 use Rattle.group.specs.Power.{pow}
 use Rattle.sharing.specs.Round.{groupIn, roundChecks}
 use Rattle.sharing.specs.Answer.{degreeOutcome, openingOutcome, recoveryOutcome}
-use Rattle.sharing.specs.Carried.{Carries, Commitments, Quorum, TrueShares, secretOf, Passes, unitAt, place, AgreeOff, sumsAt}
+use Rattle.sharing.specs.Carried.{Carries, Commitments, Quorum, TrueShares, secretOf, CheckPolynomial, Passes, unitAt, place, AgreeOff, sumsAt}
 use Rattle.sharing.specs.declared.Round.{Round}
 
 -- the degree check is a linear form in the check polynomial: with es the exponents of the commitments to the base g, the check
@@ -20,7 +20,7 @@ use Rattle.sharing.specs.declared.Round.{Round}
 abbrev pub LinearCheck : Type 0
 LinearCheck =
     (R : Round) → Met (roundChecks R) → (vs es ds : List ℕ) → Commitments R vs → Below (groupIn R .q) es
-    → vs ≡ map (pow (groupIn R .p) (groupIn R .g .0)) es → length ds ≡ R .n - R .t → Below (groupIn R .q) ds
+    → vs ≡ map (pow (groupIn R .p) (groupIn R .g .0)) es → CheckPolynomial R ds
     → Passes R vs ds ↔ (dot (residueOps (groupIn R .q)) ds (sumsAt R es) ≡ 0)
 
 -- A. With n = t there is no place, and some polynomial of degree below t carries any n elements.
@@ -44,7 +44,7 @@ UncarriedOneValue =
 abbrev pub CarriedPasses : Type 0
 CarriedPasses =
     (R : Round) → Met (roundChecks R) → (cs vs : List ℕ) → Carries R cs vs
-    → Commitments R vs × ((ds : List ℕ) → length ds ≡ R .n - R .t → Below (groupIn R .q) ds → Passes R vs ds)
+    → Commitments R vs × ((ds : List ℕ) → CheckPolynomial R ds → Passes R vs ds)
 
 -- D. An opening is accepted exactly when it is the polynomial's value at 0.
 abbrev pub OpeningExactly : Type 0
@@ -59,3 +59,8 @@ QuorumRecovers =
     (R : Round) → Met (roundChecks R) → (cs vs : List ℕ) → Carries R cs vs → (ms ss : List ℕ) → Quorum R ms → TrueShares R cs ms ss
     → (recoveryOutcome R ms ss ≡ value (record { 0 = pow (groupIn R .p) (groupIn R .h .0) (secretOf R cs) }))
     × ((u : ℕ) → openingOutcome R vs u ≡ value tt → recoveryOutcome R ms ss ≡ value (record { 0 = pow (groupIn R .p) (groupIn R .h .0) u }))
+
+-- The secret is the commitments' alone: two polynomials that carry the same commitments have the same value at 0.
+abbrev pub SecretOfCommitments : Type 0
+SecretOfCommitments =
+    (R : Round) → Met (roundChecks R) → (cs ds vs : List ℕ) → Carries R cs vs → Carries R ds vs → secretOf R cs ≡ secretOf R ds

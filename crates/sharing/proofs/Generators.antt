@@ -1,0 +1,64 @@
+-- Products of powers of a generator b, by their exponents: the power of each sum. All hold of any proper group, for g and for h.
+use mathlib.Core.Path.{_≡_, refl, sym, ap, _∙_}
+use mathlib.Core.Bool.{true, false}
+use mathlib.Core.List.{List, [], _∷_}
+use mathlib.Core.Logic.{_↔_}
+use Prim.Native.Nat.{ℕ, suc, _%_, _^_, _<_}
+use native.Mathlib.Nat.{pow-zero, mod-eq-of-lt, zero-mod}
+use lib.ListN.{length}
+use Rattle.words.specs.Lists.{All, Below, map, all}
+use Rattle.words.proofs.Lists.{All-each, map-all, map-comp}
+use Rattle.words.proofs.Tests.{all-true, true-all}
+use Rattle.field.specs.Residue.{add, mul, residueOps}
+use Rattle.field.specs.Polynomial.{dot, valueAt}
+use Rattle.group.specs.Power.{pow}
+use Rattle.group.specs.Element.{isElement, Generator, Proper}
+use Rattle.group.specs.declared.Group.{Group}
+use Rattle.sharing.specs.Weights.{powers}
+use Rattle.sharing.specs.Carried.{powersAt}
+use Rattle.sharing.proofs.Pending.{same-power, elements-are-powers, power-of-sum, power-of-product, generator-element, power-element}
+
+-- exponents below q of which the figures are the powers of b
+pub record Exponents (G : Group) (b : ℕ) (vs es : List ℕ) : Type 0 where
+  pub low : Below (G .q) es
+  pub each : vs ≡ map (pow (G .p) b) es
+
+module _ (G : Group) (P : Proper G) (b : ℕ) (B : Generator G b) where
+  power-zero : pow (G .p) b 0 ≡ 1
+  unfolding pow
+  power-zero = rw pow-zero (mod-eq-of-lt (P .prime-p .above-one))
+
+  -- only the exponent 0 gives 1
+  pub one-exactly : (e : ℕ) → e < G .q → (pow (G .p) b e ≡ 1) ↔ (e ≡ 0)
+  one-exactly e h =
+      let s = same-power G P b B e 0 in
+      (λ o. sym (mod-eq-of-lt h) ∙ s .0 (o ∙ sym power-zero) ∙ zero-mod (G .q), λ z. ap (pow (G .p) b) z ∙ power-zero)
+
+  pub powers-of : (es ws : List ℕ) → powers (G .p) (map (pow (G .p) b) es) ws ≡ pow (G .p) b (dot (residueOps (G .q)) es ws)
+  unfolding powers
+  powers-of [] ws = sym power-zero
+  powers-of (e ∷ es) [] = sym power-zero
+  powers-of (e ∷ es) (w ∷ ws) =
+      (λ j. mul (G .p) (sym (power-of-product G P b e w base) j) (powers-of es ws j))
+      ∙ sym (power-of-sum G P b (mul (G .q) e w) (dot (residueOps (G .q)) es ws) base)
+    where
+      base : isElement G b ≡ true
+      base = generator-element G P b B
+
+  -- powers are elements, and elements are powers
+  pub powers-elements : (cs ms : List ℕ) → all (isElement G) (powersAt G b cs ms) ≡ true
+  unfolding powersAt
+  powers-elements cs ms =
+      true-all (isElement G) (powersAt G b cs ms)
+      (map-all (λ i. pow (G .p) b (valueAt (G .q) cs i)) (λ v. isElement G v ≡ true) ms
+      (All-each ms (λ i. power-element G P b (valueAt (G .q) cs i) (generator-element G P b B))))
+
+  pub exponents : (vs : List ℕ) → all (isElement G) vs ≡ true → (es : List ℕ) × Exponents G b vs es
+  exponents vs e = of vs (all-true (isElement G) vs e)
+    where
+      of : (vs : List ℕ) → All (λ v. isElement G v ≡ true) vs → (es : List ℕ) × Exponents G b vs es
+      of [] h = ([], record { low = tt; each = refl })
+      of (v ∷ vs) h =
+          let l = elements-are-powers G P b B v .0 (h .0) in
+          let r = of vs (h .1) in
+          (l .log ∷ r .0, record { low = (l .low, r .1 .low); each = λ j. l .power j ∷ r .1 .each j })

@@ -1,0 +1,10 @@
+-- Proofs of what specs/Claims.antt states.
+pub mod Others
+pub mod Linear
+pub mod Generators
+pub mod Rounds
+pub mod Degree
+pub mod Carried
+pub mod Secret
+pub mod Place
+pub mod Theorems

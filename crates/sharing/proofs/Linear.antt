@@ -1,0 +1,101 @@
+-- Linear forms modulo a prime q: the sum of the products of coefficients and sums, at a unit and at two lists that differ at one place.
+-- The difference of two such forms is that of the coefficients at the place, times the sum there; where that sum is not 0, equal forms have equal coefficients.
+use mathlib.Core.Path.{_≡_, refl, sym, ap, _∙_}
+use mathlib.Core.List.{List, [], _∷_}
+use Prim.Native.Nat.{ℕ, zero, suc, _%_, _<_}
+use native.Mathlib.Nat as N
+use native.Mathlib.Nat.{mod-eq-of-lt, zero-mod, not-suc-le-zero, le-of-suc-le-suc}
+use native.Mathlib.Omega.{arith}
+use lib.ListN.{length, getD, replicate}
+use lib.Seq.{ext-getD}
+use Rattle.words.specs.Lists.{All, Below}
+use Rattle.words.proofs.Lists.{All-at}
+use Rattle.field.specs.Residue.{add, mul, inv, residueOps}
+use Rattle.field.specs.Prime.{Prime}
+use Rattle.field.specs.Polynomial.{dot}
+use Rattle.field.proofs.Modular.{add-comm, add-assoc, add-zero, add-below, mul-comm, mul-assoc, mul-one, mul-below}
+use Rattle.field.proofs.Inverse.{positive, mul-inv}
+use Rattle.sharing.specs.Carried.{unitAt, AgreeOff}
+
+mul-zero : (q a : ℕ) → mul q a 0 ≡ 0
+unfolding mul
+mul-zero q a = rw (N.mul-zero, zero-mod)
+
+zero-mul : (q a : ℕ) → mul q 0 a ≡ 0
+zero-mul q a = mul-comm q 0 a ∙ mul-zero q a
+
+module _ (q : ℕ) (P : Prime q) where
+  abbrev form : List ℕ → List ℕ → ℕ
+  form cs zs = dot (residueOps q) cs zs
+
+  zero-add : (a : ℕ) → a < q → add q 0 a ≡ a
+  zero-add a h = add-comm q 0 a ∙ add-zero q a h
+
+  one-mul : (a : ℕ) → a < q → mul q 1 a ≡ a
+  one-mul a h = mul-comm q 1 a ∙ mul-one q a h
+
+  pub form-below : (cs zs : List ℕ) → form cs zs < q
+  form-below [] zs = positive q P
+  form-below (c ∷ cs) [] = positive q P
+  form-below (c ∷ cs) (z ∷ zs) = add-below q (mul q c z) (form cs zs) (positive q P)
+
+  -- where every sum is 0
+  pub form-zero : (cs zs : List ℕ) → All (λ z. z ≡ 0) zs → form cs zs ≡ 0
+  form-zero [] zs h = refl
+  form-zero (c ∷ cs) [] h = refl
+  form-zero (c ∷ cs) (z ∷ zs) h =
+      (λ j. add q ((ap (mul q c) (h .0) ∙ mul-zero q c) j) (form-zero cs zs (h .1) j)) ∙ add-zero q 0 (positive q P)
+
+  form-zeros : (m : ℕ) (zs : List ℕ) → form (replicate m 0) zs ≡ 0
+  form-zeros zero zs = refl
+  form-zeros (suc m) [] = refl
+  form-zeros (suc m) (z ∷ zs) = (λ j. add q (zero-mul q z j) (form-zeros m zs j)) ∙ add-zero q 0 (positive q P)
+
+  -- a unit picks the sum at its place
+  pub form-unit : (k m : ℕ) (zs : List ℕ) → length zs ≡ m → k < m → Below q zs → form (unitAt k m) zs ≡ getD zs k 0
+  form-unit k zero zs l h b = absurd (not-suc-le-zero h)
+  form-unit k (suc m) [] l h b = absurd (omega arith)
+  form-unit zero (suc m) (z ∷ zs) l h b =
+      (λ j. add q (one-mul z (b .0) j) (form-zeros m zs j)) ∙ add-zero q z (b .0)
+  form-unit (suc k) (suc m) (z ∷ zs) l h b =
+      ap (λ v. add q v (form (unitAt k m) zs)) (zero-mul q z)
+      ∙ zero-add (form (unitAt k m) zs) (form-below (unitAt k m) zs)
+      ∙ form-unit k m zs (omega arith) (le-of-suc-le-suc h) (b .1)
+
+  -- ---- two lists that differ at one place: the difference of the forms is that of the products at the place
+  swap : (a b c : ℕ) → add q (add q a b) c ≡ add q (add q c b) a
+  swap a b c = add-comm q (add q a b) c ∙ ap (add q c) (add-comm q a b) ∙ sym (add-assoc q c b a)
+
+  pub form-differ : (k : ℕ) (cs ds zs : List ℕ) → length cs ≡ length ds → AgreeOff k cs ds
+      → add q (form cs zs) (mul q (getD ds k 0) (getD zs k 0)) ≡ add q (form ds zs) (mul q (getD cs k 0) (getD zs k 0))
+  form-differ k [] [] zs l a = refl
+  form-differ k [] (d ∷ ds) zs l a = absurd (omega arith)
+  form-differ k (c ∷ cs) [] zs l a = absurd (omega arith)
+  form-differ k (c ∷ cs) (d ∷ ds) [] l a = ap (add q 0) (mul-zero q (getD (d ∷ ds) k 0) ∙ sym (mul-zero q (getD (c ∷ cs) k 0)))
+  form-differ zero (c ∷ cs) (d ∷ ds) (z ∷ zs) l a =
+      let e : cs ≡ ds = ext-getD 0 cs ds (omega arith) (λ i h. a (suc i) (λ z. omega arith)) in
+      ap (λ r. add q (add q (mul q c z) (form r zs)) (mul q d z)) e ∙ swap (mul q c z) (form ds zs) (mul q d z)
+  form-differ (suc k) (c ∷ cs) (d ∷ ds) (z ∷ zs) l a =
+      let r = form-differ k cs ds zs (omega arith) (λ j n. a (suc j) (λ e. n (omega arith))) in
+      add-assoc q (mul q c z) (form cs zs) (mul q (getD ds k 0) (getD zs k 0))
+      ∙ (λ j. add q (mul q (a 0 (λ e. omega arith) j) z) (r j))
+      ∙ sym (add-assoc q (mul q d z) (form ds zs) (mul q (getD cs k 0) (getD zs k 0)))
+
+  cancel : (a b z : ℕ) → a < q → b < q → 0 < z % q → mul q a z ≡ mul q b z → a ≡ b
+  cancel a b z h k p e = sym (back a h) ∙ ap (λ v. mul q v (inv q z)) e ∙ back b k
+    where
+      back : (a : ℕ) → a < q → mul q (mul q a z) (inv q z) ≡ a
+      back a h = mul-assoc q a z (inv q z) ∙ ap (mul q a) (mul-inv q P z p) ∙ mul-one q a h
+
+  -- where the sum at the place is not 0, one value there makes the form 0
+  pub form-once : (k : ℕ) (cs ds zs : List ℕ) → length cs ≡ length ds → k < length ds → Below q cs → Below q ds → AgreeOff k cs ds
+      → 0 < getD zs k 0 % q → form cs zs ≡ 0 → form ds zs ≡ 0 → getD cs k 0 ≡ getD ds k 0
+  form-once k cs ds zs l h hc hd a p ec ed =
+      let z : ℕ = getD zs k 0 in
+      let x : ℕ = getD cs k 0 in
+      let y : ℕ = getD ds k 0 in
+      let d : add q 0 (mul q y z) ≡ add q 0 (mul q x z) =
+      (λ j. add q (sym ec j) (mul q y z)) ∙ form-differ k cs ds zs l a ∙ (λ j. add q (ed j) (mul q x z)) in
+      let e : mul q x z ≡ mul q y z =
+      sym (zero-add (mul q x z) (mul-below q x z (positive q P))) ∙ sym d ∙ zero-add (mul q y z) (mul-below q y z (positive q P)) in
+      cancel x y z (All-at (λ c. c < q) cs k 0 (omega arith) hc) (All-at (λ c. c < q) ds k 0 h hd) p e

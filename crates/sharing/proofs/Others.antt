@@ -1,0 +1,117 @@
+-- The weights and Lagrange's coefficients, as products over the other members of a list, are those of the nodes before and after each node.
+-- So sums with them are divided differences, and Lagrange's formula at zero.
+use mathlib.Core.Path.{_≡_, refl, sym, ap, _∙_}
+use mathlib.Core.Bool.{Bool, true, false}
+use mathlib.Core.List.{List, [], _∷_}
+use Prim.Native.Nat.{ℕ, _<_}
+use native.Mathlib.Omega.{arith}
+use borrow.Author.Tests.{eq-eqb, ne-eqb}
+use lib.Dec.{eqb}
+use Rattle.words.specs.Choice.{pick}
+use Rattle.words.specs.Lists.{All, Distinct, map}
+use Rattle.words.proofs.Lists.{All-each, up-distinct}
+use Rattle.words.proofs.Tests.{pick-true, pick-false}
+use Rattle.field.specs.Residue.{add, mul, sub, inv, residueOps}
+use Rattle.field.specs.Polynomial.{dot, gaps, weights, divided, products, ratios, lagrange, atZero, valueAt}
+use Rattle.field.proofs.Modular.{mul-comm, mul-assoc, mul-one, mul-below, sub-add-neg}
+use Rattle.sharing.specs.Round.{members}
+use Rattle.sharing.specs.Weights.{productOver, gapsAt, weightAt, weightsOf, lagrangeAt}
+
+-- x is none of the list
+abbrev Apart : ℕ → List ℕ → Type 0
+Apart x l = All (λ y. x ≡ y → ⊥) l
+
+-- the nodes before, which were met last first, and those that follow: the whole list of nodes
+abbrev whole : List ℕ → List ℕ → List ℕ
+whole [] l = l
+whole (y ∷ before) l = whole before (y ∷ l)
+
+-- ---- a product over the others of a whole list
+module _ (q : ℕ) (above : 1 < q) (f : ℕ → ℕ) (x : ℕ) where
+  abbrev others : List ℕ → ℕ
+  others l = productOver q f x l
+
+  self : (l : List ℕ) → others (x ∷ l) ≡ others l
+  self l = pick-true (eqb x x) (others l) (mul q (f x) (others l)) (eq-eqb x x refl)
+
+  other : (y : ℕ) (l : List ℕ) → (x ≡ y → ⊥) → others (y ∷ l) ≡ mul q (f y) (others l)
+  other y l n = pick-false (eqb x y) (others l) (mul q (f y) (others l)) (ne-eqb x y n)
+
+  others-below : (l : List ℕ) → others l < q
+  others-below [] = above
+  others-below (y ∷ l) = by (eqb x y) (others-below l)
+    where
+      by : (b : Bool) → others l < q → pick b (others l) (mul q (f y) (others l)) < q
+      by true h = h
+      by false h = mul-below q (f y) (others l) (omega arith)
+
+  others-whole : (before l : List ℕ) → others (whole before l) ≡ mul q (others before) (others l)
+  others-whole [] l = sym (mul-comm q 1 (others l) ∙ mul-one q (others l) (others-below l))
+  others-whole (y ∷ before) l = others-whole before (y ∷ l) ∙ by (eqb x y)
+    where
+      by : (b : Bool) → mul q (others before) (pick b (others l) (mul q (f y) (others l)))
+          ≡ mul q (pick b (others before) (mul q (f y) (others before))) (others l)
+      by true = refl
+      by false = sym (mul-assoc q (others before) (f y) (others l)) ∙ ap (λ v. mul q v (others l)) (mul-comm q (others before) (f y))
+
+  -- those before and those after
+  others-split : (before after : List ℕ) → mul q (others before) (others after) ≡ others (whole before (x ∷ after))
+  others-split before after = sym (others-whole before (x ∷ after) ∙ ap (mul q (others before)) (self after))
+
+-- ---- each node among those before and after it
+-- the nodes after are none of those before
+abbrev Fresh : List ℕ → List ℕ → Type 0
+Fresh before xs = All (λ y. Apart y before) xs
+
+fresh-next : (x : ℕ) (before xs : List ℕ) → Apart x xs → Fresh before xs → Fresh (x ∷ before) xs
+fresh-next x before [] a h = tt
+fresh-next x before (y ∷ xs) a h = (((λ e. a .0 (sym e)), h .0), fresh-next x before xs (a .1) (h .1))
+
+module _ (q : ℕ) (above : 1 < q) where
+  gaps-others : (x : ℕ) (l : List ℕ) → Apart x l → gaps (residueOps q) x l ≡ productOver q (sub q x) x l
+  gaps-others x [] a = refl
+  gaps-others x (y ∷ l) a =
+      (λ j. mul q (sym (sub-add-neg q x y) j) (gaps-others x l (a .1) j)) ∙ sym (other q above (sub q x) x y l (a .0))
+
+  abbrev ratio : ℕ → ℕ → ℕ
+  ratio i j = mul q j (inv q (sub q j i))
+
+  ratios-others : (x : ℕ) (l : List ℕ) → Apart x l → ratios (residueOps q) x l ≡ productOver q (ratio x) x l
+  ratios-others x [] a = refl
+  ratios-others x (y ∷ l) a =
+      (λ j. mul q (mul q y (inv q (sym (sub-add-neg q y x) j))) (ratios-others x l (a .1) j)) ∙ sym (other q above (ratio x) x y l (a .0))
+
+  weights-others : (before xs : List ℕ) → Distinct xs → Fresh before xs
+      → weights (residueOps q) before xs ≡ map (λ x. inv q (productOver q (sub q x) x (whole before xs))) xs
+  weights-others before [] d h = refl
+  weights-others before (x ∷ xs) d h =
+      let e = (λ j. mul q (gaps-others x before (h .0) j) (gaps-others x xs (d .0) j)) ∙ others-split q above (sub q x) x before xs in
+      λ j. inv q (e j) ∷ weights-others (x ∷ before) xs (d .1) (fresh-next x before xs (d .0) (h .1)) j
+
+  lagrange-others : (before xs : List ℕ) → Distinct xs → Fresh before xs
+      → lagrange (residueOps q) before xs ≡ map (lagrangeAt q (whole before xs)) xs
+  unfolding lagrangeAt
+  lagrange-others before [] d h = refl
+  lagrange-others before (x ∷ xs) d h =
+      let e = (λ j. mul q (ratios-others x before (h .0) j) (ratios-others x xs (d .0) j)) ∙ others-split q above (ratio x) x before xs in
+      λ j. e j ∷ lagrange-others (x ∷ before) xs (d .1) (fresh-next x before xs (d .0) (h .1)) j
+
+  -- ---- the sums
+  -- weights that are products go over to the values
+  dot-products : (w f : ℕ → ℕ) (ys xs : List ℕ)
+      → dot (residueOps q) ys (map (λ x. mul q (w x) (f x)) xs) ≡ dot (residueOps q) (products (residueOps q) ys (map f xs)) (map w xs)
+  dot-products w f [] xs = refl
+  dot-products w f (y ∷ ys) [] = refl
+  dot-products w f (y ∷ ys) (x ∷ xs) =
+      λ j. add q ((ap (mul q y) (mul-comm q (w x) (f x)) ∙ sym (mul-assoc q y (f x) (w x))) j) (dot-products w f ys xs j)
+
+  pub weights-divided : (n : ℕ) (es ds : List ℕ)
+      → dot (residueOps q) es (weightsOf q n ds) ≡ divided (residueOps q) (members n) (products (residueOps q) es (map (valueAt q ds) (members n)))
+  unfolding weightsOf weightAt gapsAt
+  weights-divided n es ds =
+      dot-products (λ i. inv q (productOver q (sub q i) i (members n))) (valueAt q ds) es (members n)
+      ∙ ap (dot (residueOps q) (products (residueOps q) es (map (valueAt q ds) (members n))))
+      (sym (weights-others [] (members n) (up-distinct 1 n) (All-each (members n) (λ x. tt))))
+
+  pub lagrange-at-zero : (ms ys : List ℕ) → Distinct ms → dot (residueOps q) ys (map (lagrangeAt q ms) ms) ≡ atZero (residueOps q) ms ys
+  lagrange-at-zero ms ys d = ap (dot (residueOps q) ys) (sym (lagrange-others [] ms d (All-each ms (λ x. tt))))
