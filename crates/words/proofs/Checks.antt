@@ -17,27 +17,27 @@ use Rattle.words.proofs.Tests.{all-true, pick-true, pick-false}
 -- ---- two lists of checks put together: where the first is met the second decides, and else the first
 pub refusal-rest : (cs ds : List Check) → Met cs → refusal (cs ++ ds) ≡ refusal ds
 refusal-rest [] ds m = refl
-refusal-rest (c ∷ cs) ds m = pick-true (c .met) (refusal (cs ++ ds)) (c .number) (m .0) ∙ refusal-rest cs ds (m .1)
+refusal-rest (c ∷ cs) ds m = pick-true (c .met) _ _ (m .0) ∙ refusal-rest cs ds (m .1)
 
 pub refusal-append : (cs ds : List Check) (k : ℕ) → FirstUnmet k cs → refusal (cs ++ ds) ≡ k
 refusal-append [] ds k u = absurd u
 refusal-append (c ∷ cs) ds k u =
     ⊎-elim
-    (λ w. pick-false (c .met) (refusal (cs ++ ds)) (c .number) (w .0) ∙ w .1)
-    (λ w. pick-true (c .met) (refusal (cs ++ ds)) (c .number) (w .0) ∙ refusal-append cs ds k (w .1))
+    (λ w. pick-false (c .met) _ _ (w .0) ∙ w .1)
+    (λ w. pick-true (c .met) _ _ (w .0) ∙ refusal-append cs ds k (w .1))
     u
 
 module _ {A : Type 0} where
   pub outcome-rest : (cs ds : List Check) (a : A) → Met cs → outcome (cs ++ ds) a ≡ outcome ds a
   outcome-rest [] ds a m = refl
-  outcome-rest (c ∷ cs) ds a m = pick-true (c .met) (outcome (cs ++ ds) a) (refused (c .number)) (m .0) ∙ outcome-rest cs ds a (m .1)
+  outcome-rest (c ∷ cs) ds a m = pick-true (c .met) _ _ (m .0) ∙ outcome-rest cs ds a (m .1)
 
   pub outcome-append : (cs ds : List Check) (a : A) (k : ℕ) → FirstUnmet k cs → outcome (cs ++ ds) a ≡ refused k
   outcome-append [] ds a k u = absurd u
   outcome-append (c ∷ cs) ds a k u =
       ⊎-elim
-      (λ w. pick-false (c .met) (outcome (cs ++ ds) a) (refused (c .number)) (w .0) ∙ ap refused (w .1))
-      (λ w. pick-true (c .met) (outcome (cs ++ ds) a) (refused (c .number)) (w .0) ∙ outcome-append cs ds a k (w .1))
+      (λ w. pick-false (c .met) _ _ (w .0) ∙ ap refused (w .1))
+      (λ w. pick-true (c .met) _ _ (w .0) ∙ outcome-append cs ds a k (w .1))
       u
 
 -- ---- one list of checks: it is the first of two, the second of which is empty

@@ -75,14 +75,14 @@ module _ (x : ℕ) where
 
   pub true-absent : (l : List ℕ) → All (λ y. x ≡ y → ⊥) l → absent x l ≡ true
   true-absent [] h = refl
-  true-absent (y ∷ l) h = pick-false (eqb x y) false (absent x l) (ne-eqb x y (h .0)) ∙ true-absent l (h .1)
+  true-absent (y ∷ l) h = pick-false (eqb x y) _ _ (ne-eqb x y (h .0)) ∙ true-absent l (h .1)
 
   module _ (l : List ℕ) (i : ℕ) (h : i < length l) where
     pub absent-next : (x ≡ getD l i 0 → ⊥) → absent x (drop i l) ≡ absent x (drop (i + 1) l)
-    absent-next n = rw (drop-next l i 0) (pick-false (eqb x (getD l i 0)) false (absent x (drop (i + 1) l)) (ne-eqb x (getD l i 0) n))
+    absent-next n = rw (drop-next l i 0) (pick-false (eqb x (getD l i 0)) _ _ (ne-eqb x (getD l i 0) n))
 
     pub absent-stop : x ≡ getD l i 0 → absent x (drop i l) ≡ false
-    absent-stop e = rw (drop-next l i 0) (pick-true (eqb x (getD l i 0)) false (absent x (drop (i + 1) l)) (eq-eqb x (getD l i 0) e))
+    absent-stop e = rw (drop-next l i 0) (pick-true (eqb x (getD l i 0)) _ _ (eq-eqb x (getD l i 0) e))
 
   pub absent-end : (l : List ℕ) (i : ℕ) → i ≡ length l → absent x (drop i l) ≡ true
   absent-end l i e = rw (e, drop-length)

@@ -30,7 +30,17 @@ word-at-requires-8 c κs = search needs
 
 returns : tie.Need-returns
 unfolding recordIn
-returns c = cc
+returns c =
+    λ j. record {
+      w0 = c .before .before .before .before .before .before .before .word-at .ensures j;
+      w1 = c .before .before .before .before .before .before .word-at2 .ensures j;
+      w2 = c .before .before .before .before .before .word-at3 .ensures j;
+      w3 = c .before .before .before .before .word-at4 .ensures j;
+      w4 = c .before .before .before .word-at5 .ensures j;
+      w5 = c .before .before .word-at6 .ensures j;
+      w6 = c .before .word-at7 .ensures j;
+      w7 = c .word-at8 .ensures j;
+    }
 
 pub read-record-spec : {M : Type 1} → statement M
 read-record-spec =
