@@ -4,7 +4,7 @@ use mathlib.Core.Path.{_≡_, refl, sym, ap, _∙_}
 use mathlib.Core.Bool.{true}
 use mathlib.Core.List.{List, [], _∷_}
 use mathlib.Core.Logic.{_⊎_, inl, inr, ⊎-elim}
-use Prim.Native.Nat.{ℕ, zero, suc, _+_, _-_, _*_, _%_, _≤_, _<_}
+use Prim.Native.Nat.{ℕ, zero, suc, _-_, _%_, _≤_, _<_}
 use native.Mathlib.Nat as N
 use native.Mathlib.Nat.{mod-eq-of-lt, mul-zero, zero-add, zero-mod, eq-zero-or-pos}
 use native.Mathlib.Decide.{ℕ-discrete}
@@ -13,7 +13,6 @@ use lib.ListN.{length, getD}
 use Rattle.words.specs.Lists.{All, Distinct, Below}
 use Rattle.words.proofs.Lists.{All-to}
 use Rattle.field.specs.Residue.{add, mul, neg, inv}
-use Rattle.field.specs.Prime.{Prime}
 use Rattle.field.specs.Polynomial.{valueAt}
 use Rattle.field.specs.Claims.{RootBound}
 use Rattle.field.proofs.Modular.{add-comm, add-assoc, add-zero, add-neg, add-below, mul-comm, mul-below, neg-below}

@@ -1,5 +1,5 @@
 -- `raise` meets its contract: the exponent falls at each call, and the power is the square of the power at half of it, times b where it is odd.
-use mathlib.Core.Path.{_≡_, sym, ap, _∙_}
+use mathlib.Core.Path.{sym, ap, _∙_}
 use Prim.Native.Nat.{ℕ, _<_}
 use native.Mathlib.Omega.{arith}
 use borrow.Fn.Kinds.{In}
