@@ -1,0 +1,58 @@
+-- Laws of inverses in a field, and of the differences of distinct elements.
+use mathlib.Core.Path.{_≡_, refl, sym, ap, _∙_}
+use mathlib.Core.List.{List, [], _∷_}
+use Rattle.field.specs.Algebra.{Ops, Field}
+use Rattle.field.proofs.Ring.{mul-zero}
+use Rattle.field.proofs.Solver.{Expr.nil, Expr.one, Expr._⊞_, Expr._⊠_, Expr.⊟_, _==_, solve, given}
+
+module _ {K : Type 0} {O : Ops K} (F : Field O) where
+  open Ops O using (zero as 𝟘, one as 𝟙, add as _⊕_, mul as _⊗_, neg as ⊖_, inv)
+  open Field F using (mul-one, mul-inv, one-ne)
+
+  infixl 60 _⊕_
+  infixl 70 _⊗_
+  infix 80 ⊖_
+  pub cancel-mul : (a b c : K) → (a ≡ 𝟘 → ⊥) → a ⊗ b ≡ a ⊗ c → b ≡ c
+  cancel-mul a b c h e =
+      given F e (given F (mul-inv a h)
+      (solve F (a ∷ inv a ∷ b ∷ c ∷ []) (λ a i b c. b == c ⊞ i ⊠ (a ⊠ b ⊞ ⊟ (a ⊠ c)) ⊞ (c ⊞ ⊟ b) ⊠ (a ⊠ i ⊞ ⊟ one)) refl))
+
+  pub mul-ne : (a b : K) → (a ≡ 𝟘 → ⊥) → (b ≡ 𝟘 → ⊥) → a ⊗ b ≡ 𝟘 → ⊥
+  mul-ne a b ha hb e = hb (cancel-mul a b 𝟘 ha (e ∙ sym (mul-zero F a)))
+
+  pub sub-ne : (x y : K) → (x ≡ y → ⊥) → x ⊕ ⊖ y ≡ 𝟘 → ⊥
+  sub-ne x y h e = h (given F e (solve F (x ∷ y ∷ []) (λ x y. x == y ⊞ one ⊠ (x ⊞ ⊟ y ⊞ ⊟ nil)) refl))
+
+  inv-unique : (a b : K) → (a ≡ 𝟘 → ⊥) → a ⊗ b ≡ 𝟙 → inv a ≡ b
+  inv-unique a b h e = cancel-mul a (inv a) b h (mul-inv a h ∙ sym e)
+
+  pub inv-one : inv 𝟙 ≡ 𝟙
+  inv-one = inv-unique 𝟙 𝟙 one-ne (mul-one 𝟙)
+
+  pub inv-mul : (a b : K) → (a ≡ 𝟘 → ⊥) → (b ≡ 𝟘 → ⊥) → inv (a ⊗ b) ≡ inv a ⊗ inv b
+  inv-mul a b ha hb =
+      inv-unique (a ⊗ b) (inv a ⊗ inv b) (mul-ne a b ha hb)
+      (given F (mul-inv a ha) (given F (mul-inv b hb)
+      (solve F (a ∷ b ∷ inv a ∷ inv b ∷ [])
+      (λ a b i j. a ⊠ b ⊠ (i ⊠ j) == one ⊞ b ⊠ j ⊠ (a ⊠ i ⊞ ⊟ one) ⊞ one ⊠ (b ⊠ j ⊞ ⊟ one))
+      refl)))
+
+  -- the difference turned round
+  pub inv-turn : (x y : K) → (x ≡ y → ⊥) → inv (y ⊕ ⊖ x) ≡ ⊖ inv (x ⊕ ⊖ y)
+  inv-turn x y h =
+      inv-unique (y ⊕ ⊖ x) (⊖ inv (x ⊕ ⊖ y)) (sub-ne y x (λ e. h (sym e)))
+      (given F (mul-inv (x ⊕ ⊖ y) (sub-ne x y h))
+      (solve F (x ∷ y ∷ inv (x ⊕ ⊖ y) ∷ [])
+      (λ x y i. (y ⊞ ⊟ x) ⊠ ⊟ i == one ⊞ one ⊠ ((x ⊞ ⊟ y) ⊠ i ⊞ ⊟ one))
+      refl))
+
+  -- partial fractions: 1 / (a - y) (y - x) as a difference of two terms with the factor 1 / (a - x)
+  pub inv-split : (a x : K) → (a ≡ x → ⊥) → (y : K) → (a ≡ y → ⊥) → (x ≡ y → ⊥)
+      → inv (a ⊕ ⊖ y) ⊗ inv (y ⊕ ⊖ x) ≡ inv (a ⊕ ⊖ x) ⊗ inv (a ⊕ ⊖ y) ⊕ ⊖ inv (a ⊕ ⊖ x) ⊗ inv (x ⊕ ⊖ y)
+  inv-split a x hx y hy h =
+      ap (λ v. inv (a ⊕ ⊖ y) ⊗ v) (inv-turn x y h)
+      ∙ given F (mul-inv (a ⊕ ⊖ x) (sub-ne a x hx)) (given F (mul-inv (a ⊕ ⊖ y) (sub-ne a y hy)) (given F (mul-inv (x ⊕ ⊖ y) (sub-ne x y h))
+      (solve F (a ∷ x ∷ y ∷ inv (a ⊕ ⊖ y) ∷ inv (x ⊕ ⊖ y) ∷ inv (a ⊕ ⊖ x) ∷ [])
+      (λ a x y p q r. p ⊠ ⊟ q == r ⊠ p ⊞ ⊟ r ⊠ q
+        ⊞ p ⊠ q ⊠ ((a ⊞ ⊟ x) ⊠ r ⊞ ⊟ one) ⊞ ⊟ (q ⊠ r) ⊠ ((a ⊞ ⊟ y) ⊠ p ⊞ ⊟ one) ⊞ p ⊠ r ⊠ ((x ⊞ ⊟ y) ⊠ q ⊞ ⊟ one))
+      refl)))
