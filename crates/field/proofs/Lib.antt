@@ -9,3 +9,8 @@ pub mod Ring
 pub mod Solver
 pub mod Reciprocal
 pub mod Divided
+pub mod Weights
+pub mod LinearForm
+pub mod Interpolate
+pub mod AtZero
+pub mod Transfer
