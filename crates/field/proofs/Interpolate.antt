@@ -7,11 +7,11 @@ use Prim.Native.Nat.{ℕ, zero, suc, _+_, _-_, _≤_, _<_}
 use native.Mathlib.Omega.{arith}
 use lib.ListN.{length, getD, take, replicate, length-append, length-replicate, List·getD-eq-default}
 use lib.Seq.{getD-append-add, length-take-le}
-use Rattle.words.specs.Lists.{All, Distinct, map}
+use Rattle.words.specs.Lists.{Distinct, map}
 use Rattle.field.specs.Algebra.{Ops, Field}
 use Rattle.field.specs.Polynomial.{eval, power, divided, scaled}
 use Rattle.field.proofs.Solver.{Expr.nil, Expr.one, Expr._⊞_, Expr._⊠_, Expr.⊟_, _==_, solve, given}
-use Rattle.field.proofs.Reciprocal.{sub-ne}
+use Rattle.field.proofs.Reciprocal.{sub-inv}
 use Rattle.field.proofs.Divided.{Off}
 use Rattle.field.proofs.Weights.{divided-eval}
 
@@ -34,7 +34,6 @@ module _ {K : Type 0} (O : Ops K) where
 
 module _ {K : Type 0} {O : Ops K} (F : Field O) where
   open Ops O using (zero as 𝟘, add as _⊕_, mul as _⊗_, neg as ⊖_, inv)
-  open Field F using (mul-inv)
 
   infixl 60 _⊕_
   infixl 70 _⊗_
@@ -49,7 +48,7 @@ module _ {K : Type 0} {O : Ops K} (F : Field O) where
   newton-eval x y (q ∷ qs) u =
       ap (λ v. y ⊕ ⊖ (x ⊗ q) ⊕ u ⊗ v) (newton-eval x q qs u)
       ∙ solve F (x ∷ y ∷ q ∷ u ∷ eval O qs u ∷ [])
-        (λ x y q u e. y ⊞ ⊟ (x ⊠ q) ⊞ u ⊠ (q ⊞ (u ⊞ ⊟ x) ⊠ e) == y ⊞ (u ⊞ ⊟ x) ⊠ (q ⊞ u ⊠ e)) refl
+      (λ x y q u e. y ⊞ ⊟ (x ⊠ q) ⊞ u ⊠ (q ⊞ (u ⊞ ⊟ x) ⊠ e) == y ⊞ (u ⊞ ⊟ x) ⊠ (q ⊞ u ⊠ e)) refl
 
   slopes-length : (x y : K) (us vs : List K) → length vs ≡ length us → length (slopes O x y us vs) ≡ length us
   slopes-length x y [] vs n = refl
@@ -67,12 +66,12 @@ module _ {K : Type 0} {O : Ops K} (F : Field O) where
       let here : eval O (newton O x y qs) u ≡ v =
       newton-eval x y qs u
       ∙ ap (λ s. y ⊕ (u ⊕ ⊖ x) ⊗ s) (head-eq-of-cons-eq e)
-      ∙ given F (mul-inv (u ⊕ ⊖ x) (sub-ne F u x (λ p. h .0 (sym p))))
-        (solve F (x ∷ y ∷ u ∷ v ∷ i ∷ [])
-        (λ x y u v i. y ⊞ (u ⊞ ⊟ x) ⊠ ((v ⊞ ⊟ y) ⊠ i) == v ⊞ (v ⊞ ⊟ y) ⊠ ((u ⊞ ⊟ x) ⊠ i ⊞ ⊟ one)) refl) in
+      ∙ given F (sub-inv F u x (h .0))
+      (solve F (x ∷ y ∷ u ∷ v ∷ i ∷ [])
+      (λ x y u v i. y ⊞ (u ⊞ ⊟ x) ⊠ ((v ⊞ ⊟ y) ⊠ i) == v ⊞ (v ⊞ ⊟ y) ⊠ ((u ⊞ ⊟ x) ⊠ i ⊞ ⊟ one)) refl) in
       λ j. here j ∷ newton-values x y qs us vs (h .1) (omega arith) (tail-eq-of-cons-eq e) j
 
-  pub interpolate : (xs ys : List K) → Distinct xs → length ys ≡ length xs → (cs : List K) × (length cs ≡ length xs) × (map (eval O cs) xs ≡ ys)
+  interpolate : (xs ys : List K) → Distinct xs → length ys ≡ length xs → (cs : List K) × (length cs ≡ length xs) × (map (eval O cs) xs ≡ ys)
   interpolate [] [] d n = ([], refl, refl)
   interpolate [] (y ∷ ys) d n = absurd (omega arith)
   interpolate (x ∷ xs) [] d n = absurd (omega arith)
@@ -97,7 +96,7 @@ module _ {K : Type 0} {O : Ops K} (F : Field O) where
   scaled-map k f [] = refl
   scaled-map k f (x ∷ xs) = ap (λ l. power O x k ⊗ f x ∷ l) (scaled-map k f xs)
 
-  -- at k + t + 1 nodes the sum with the power k has the coefficient t, where no other follows
+  -- at k + t + 1 nodes, of at most t + 1 coefficients: the sum with the power k is the coefficient t
   moment : (k t : ℕ) (cs xs : List K) → Distinct xs → length xs ≡ suc (k + t) → length cs ≤ suc t
       → divided O xs (scaled O k xs (map (eval O cs) xs)) ≡ getD cs t 𝟘
   moment k t cs xs d n h =
@@ -114,6 +113,7 @@ module _ {K : Type 0} {O : Ops K} (F : Field O) where
   take-eval zero (c ∷ b ∷ cs) x n z = absurd (omega arith)
   take-eval (suc t) (c ∷ cs) x n z = ap (λ v. c ⊕ x ⊗ v) (take-eval t cs x (omega arith) z)
 
+  -- each further sum that vanishes takes a coefficient away
   lower : (m t : ℕ) (xs ys : List K) → Distinct xs → length ys ≡ length xs → t + m ≡ length xs
       → ((k : ℕ) → k < m → divided O xs (scaled O k xs ys) ≡ 𝟘)
       → (cs : List K) × (length cs ≡ t) × (map (eval O cs) xs ≡ ys)

@@ -14,3 +14,4 @@ pub mod LinearForm
 pub mod Interpolate
 pub mod AtZero
 pub mod Transfer
+pub mod Theorems

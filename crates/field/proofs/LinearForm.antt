@@ -32,9 +32,11 @@ module _ {K : Type 0} {O : Ops K} (F : Field O) where
   form-cons k c cs (x ∷ xs) [] ws = nothing c
   form-cons k c cs (x ∷ xs) (y ∷ ys) [] = nothing c
   form-cons k c cs (x ∷ xs) (y ∷ ys) (w ∷ ws) =
+      let sum : K = dot O (scaled O k xs ys) ws in
+      let rest : K = dot O (products O (scaled O (suc k) xs ys) (map (eval O cs) xs)) ws in
       ap (λ v. power O x k ⊗ y ⊗ (c ⊕ x ⊗ eval O cs x) ⊗ w ⊕ v) (form-cons k c cs xs ys ws)
-      ∙ solve F (power O x k ∷ x ∷ y ∷ w ∷ c ∷ eval O cs x ∷ dot O (scaled O k xs ys) ws ∷ dot O (products O (scaled O (suc k) xs ys) (map (eval O cs) xs)) ws ∷ [])
-        (λ p x y w c e s r. p ⊠ y ⊠ (c ⊞ x ⊠ e) ⊠ w ⊞ (c ⊠ s ⊞ r) == c ⊠ (p ⊠ y ⊠ w ⊞ s) ⊞ (x ⊠ p ⊠ y ⊠ e ⊠ w ⊞ r)) refl
+      ∙ solve F (power O x k ∷ x ∷ y ∷ w ∷ c ∷ eval O cs x ∷ sum ∷ rest ∷ [])
+      (λ p x y w c e s r. p ⊠ y ⊠ (c ⊞ x ⊠ e) ⊠ w ⊞ (c ⊠ s ⊞ r) == c ⊠ (p ⊠ y ⊠ w ⊞ s) ⊞ (x ⊠ p ⊠ y ⊠ e ⊠ w ⊞ r)) refl
 
   form-from : (k : ℕ) (cs xs ys ws : List K)
       → dot O (products O (scaled O k xs ys) (map (eval O cs) xs)) ws ≡ dot O cs (map (λ j. dot O (scaled O j xs ys) ws) (upFrom k (length cs)))

@@ -1,6 +1,6 @@
 -- Laws of inverses in a field, and of the differences of distinct elements.
-use mathlib.Core.Path.{_≡_, refl, sym, ap, _∙_}
-use mathlib.Core.List.{List, [], _∷_}
+use mathlib.Core.Path.{_≡_, refl, sym, _∙_}
+use mathlib.Core.List.{[], _∷_}
 use Rattle.field.specs.Algebra.{Ops, Field}
 use Rattle.field.proofs.Ring.{mul-zero}
 use Rattle.field.proofs.Solver.{Expr.nil, Expr.one, Expr._⊞_, Expr._⊠_, Expr.⊟_, _==_, solve, given}
@@ -12,7 +12,7 @@ module _ {K : Type 0} {O : Ops K} (F : Field O) where
   infixl 60 _⊕_
   infixl 70 _⊗_
   infix 80 ⊖_
-  pub cancel-mul : (a b c : K) → (a ≡ 𝟘 → ⊥) → a ⊗ b ≡ a ⊗ c → b ≡ c
+  cancel-mul : (a b c : K) → (a ≡ 𝟘 → ⊥) → a ⊗ b ≡ a ⊗ c → b ≡ c
   cancel-mul a b c h e =
       given F e (given F (mul-inv a h)
       (solve F (a ∷ inv a ∷ b ∷ c ∷ []) (λ a i b c. b == c ⊞ i ⊠ (a ⊠ b ⊞ ⊟ (a ⊠ c)) ⊞ (c ⊞ ⊟ b) ⊠ (a ⊠ i ⊞ ⊟ one)) refl))
@@ -23,7 +23,11 @@ module _ {K : Type 0} {O : Ops K} (F : Field O) where
   pub sub-ne : (x y : K) → (x ≡ y → ⊥) → x ⊕ ⊖ y ≡ 𝟘 → ⊥
   sub-ne x y h e = h (given F e (solve F (x ∷ y ∷ []) (λ x y. x == y ⊞ one ⊠ (x ⊞ ⊟ y ⊞ ⊟ nil)) refl))
 
-  inv-unique : (a b : K) → (a ≡ 𝟘 → ⊥) → a ⊗ b ≡ 𝟙 → inv a ≡ b
+  -- the inverse of a difference, which is not zero
+  pub sub-inv : (x y : K) → (y ≡ x → ⊥) → (x ⊕ ⊖ y) ⊗ inv (x ⊕ ⊖ y) ≡ 𝟙
+  sub-inv x y h = mul-inv (x ⊕ ⊖ y) (sub-ne x y (λ e. h (sym e)))
+
+  pub inv-unique : (a b : K) → (a ≡ 𝟘 → ⊥) → a ⊗ b ≡ 𝟙 → inv a ≡ b
   inv-unique a b h e = cancel-mul a (inv a) b h (mul-inv a h ∙ sym e)
 
   pub inv-one : inv 𝟙 ≡ 𝟙
@@ -37,22 +41,12 @@ module _ {K : Type 0} {O : Ops K} (F : Field O) where
       (λ a b i j. a ⊠ b ⊠ (i ⊠ j) == one ⊞ b ⊠ j ⊠ (a ⊠ i ⊞ ⊟ one) ⊞ one ⊠ (b ⊠ j ⊞ ⊟ one))
       refl)))
 
-  -- the difference turned round
-  pub inv-turn : (x y : K) → (x ≡ y → ⊥) → inv (y ⊕ ⊖ x) ≡ ⊖ inv (x ⊕ ⊖ y)
-  inv-turn x y h =
-      inv-unique (y ⊕ ⊖ x) (⊖ inv (x ⊕ ⊖ y)) (sub-ne y x (λ e. h (sym e)))
-      (given F (mul-inv (x ⊕ ⊖ y) (sub-ne x y h))
-      (solve F (x ∷ y ∷ inv (x ⊕ ⊖ y) ∷ [])
-      (λ x y i. (y ⊞ ⊟ x) ⊠ ⊟ i == one ⊞ one ⊠ ((x ⊞ ⊟ y) ⊠ i ⊞ ⊟ one))
-      refl))
-
-  -- partial fractions: 1 / (a - y) (y - x) as a difference of two terms with the factor 1 / (a - x)
+  -- partial fractions: 1 / (y - a) (y - x) is the difference of 1 / (y - x) and 1 / (y - a), over x - a
   pub inv-split : (a x : K) → (a ≡ x → ⊥) → (y : K) → (a ≡ y → ⊥) → (x ≡ y → ⊥)
-      → inv (a ⊕ ⊖ y) ⊗ inv (y ⊕ ⊖ x) ≡ inv (a ⊕ ⊖ x) ⊗ inv (a ⊕ ⊖ y) ⊕ ⊖ inv (a ⊕ ⊖ x) ⊗ inv (x ⊕ ⊖ y)
-  inv-split a x hx y hy h =
-      ap (λ v. inv (a ⊕ ⊖ y) ⊗ v) (inv-turn x y h)
-      ∙ given F (mul-inv (a ⊕ ⊖ x) (sub-ne a x hx)) (given F (mul-inv (a ⊕ ⊖ y) (sub-ne a y hy)) (given F (mul-inv (x ⊕ ⊖ y) (sub-ne x y h))
-      (solve F (a ∷ x ∷ y ∷ inv (a ⊕ ⊖ y) ∷ inv (x ⊕ ⊖ y) ∷ inv (a ⊕ ⊖ x) ∷ [])
-      (λ a x y p q r. p ⊠ ⊟ q == r ⊠ p ⊞ ⊟ r ⊠ q
-        ⊞ p ⊠ q ⊠ ((a ⊞ ⊟ x) ⊠ r ⊞ ⊟ one) ⊞ ⊟ (q ⊠ r) ⊠ ((a ⊞ ⊟ y) ⊠ p ⊞ ⊟ one) ⊞ p ⊠ r ⊠ ((x ⊞ ⊟ y) ⊠ q ⊞ ⊟ one))
+      → 𝟙 ⊗ inv (y ⊕ ⊖ a) ⊗ inv (y ⊕ ⊖ x) ≡ ⊖ inv (x ⊕ ⊖ a) ⊗ (𝟙 ⊗ inv (y ⊕ ⊖ a)) ⊕ inv (x ⊕ ⊖ a) ⊗ (𝟙 ⊗ inv (y ⊕ ⊖ x))
+  inv-split a x hx y ha h =
+      given F (sub-inv x a hx) (given F (sub-inv y a ha) (given F (sub-inv y x h)
+      (solve F (a ∷ x ∷ y ∷ inv (x ⊕ ⊖ a) ∷ inv (y ⊕ ⊖ a) ∷ inv (y ⊕ ⊖ x) ∷ [])
+      (λ a x y i p q. one ⊠ p ⊠ q == ⊟ i ⊠ (one ⊠ p) ⊞ i ⊠ (one ⊠ q)
+      ⊞ ⊟ (p ⊠ q) ⊠ ((x ⊞ ⊟ a) ⊠ i ⊞ ⊟ one) ⊞ i ⊠ q ⊠ ((y ⊞ ⊟ a) ⊠ p ⊞ ⊟ one) ⊞ ⊟ (i ⊠ p) ⊠ ((y ⊞ ⊟ x) ⊠ q ⊞ ⊟ one))
       refl)))

@@ -10,10 +10,10 @@ module _ {K : Type 0} {O : Ops K} (F : Field O) where
   infixl 70 _⊗_
   infix 80 ⊖_
   pub add-left-comm : (a b c : K) → a ⊕ (b ⊕ c) ≡ b ⊕ (a ⊕ c)
-  add-left-comm a b c = rw (← add-assoc, add-comm a b, add-assoc)
+  add-left-comm a b c = rw (← add-assoc a b c, add-comm a b, add-assoc)
 
   pub mul-left-comm : (a b c : K) → a ⊗ (b ⊗ c) ≡ b ⊗ (a ⊗ c)
-  mul-left-comm a b c = rw (← mul-assoc, mul-comm a b, mul-assoc)
+  mul-left-comm a b c = rw (← mul-assoc a b c, mul-comm a b, mul-assoc)
 
   pub zero-add : (a : K) → 𝟘 ⊕ a ≡ a
   zero-add a = add-comm 𝟘 a ∙ add-zero a

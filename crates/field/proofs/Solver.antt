@@ -85,39 +85,44 @@ module _ {A K : Type 0} (_·_ : K → K → K) (unit : K) (value : A → K) wher
   fold [] = unit
   fold (a ∷ l) = value a · fold l
 
-  module _ (assoc : (a b c : K) → (a · b) · c ≡ a · (b · c)) (left-comm : (a b c : K) → a · (b · c) ≡ b · (a · c)) (left-unit : (a : K) → unit · a ≡ a) (le : A → A → Bool) where
-    either : (t : Bool) (l m : List A) (v : K) → fold l ≡ v → fold m ≡ v → fold (pick t l m) ≡ v
-    either true l m v p q = p
-    either false l m v p q = q
+  module _
+      (assoc : (a b c : K) → (a · b) · c ≡ a · (b · c))
+      (left-comm : (a b c : K) → a · (b · c) ≡ b · (a · c))
+      (left-unit : (a : K) → unit · a ≡ a)
+      (le : A → A → Bool)
+    where
+      either : (t : Bool) (l m : List A) (v : K) → fold l ≡ v → fold m ≡ v → fold (pick t l m) ≡ v
+      either true l m v p q = p
+      either false l m v p q = q
 
-    insert-fold : (a : A) (l : List A) → fold (insert le a l) ≡ value a · fold l
-    insert-fold a [] = refl
-    insert-fold a (b ∷ l) =
-        either (le a b) (a ∷ b ∷ l) (b ∷ insert le a l) (value a · (value b · fold l)) refl
-        (ap (λ v. value b · v) (insert-fold a l) ∙ left-comm (value b) (value a) (fold l))
+      insert-fold : (a : A) (l : List A) → fold (insert le a l) ≡ value a · fold l
+      insert-fold a [] = refl
+      insert-fold a (b ∷ l) =
+          either (le a b) (a ∷ b ∷ l) (b ∷ insert le a l) (value a · (value b · fold l)) refl
+          (ap (λ v. value b · v) (insert-fold a l) ∙ left-comm (value b) (value a) (fold l))
 
-    merge-fold : (l m : List A) → fold (merge le l m) ≡ fold l · fold m
-    merge-fold [] m = sym (left-unit (fold m))
-    merge-fold (a ∷ l) m =
-        insert-fold a (merge le l m) ∙ ap (λ v. value a · v) (merge-fold l m) ∙ sym (assoc (value a) (fold l) (fold m))
+      merge-fold : (l m : List A) → fold (merge le l m) ≡ fold l · fold m
+      merge-fold [] m = sym (left-unit (fold m))
+      merge-fold (a ∷ l) m =
+          insert-fold a (merge le l m) ∙ ap (λ v. value a · v) (merge-fold l m) ∙ sym (assoc (value a) (fold l) (fold m))
 
 -- ---- the value of an expression and of its normal form
 module _ {K : Type 0} {O : Ops K} (F : Field O) where
   open Ops O using (zero as 𝟘, one as 𝟙, add as _⊕_, mul as _⊗_, neg as ⊖_)
-  open Field F using (add-assoc, add-comm, add-zero, mul-assoc, mul-comm, mul-one, mul-add)
+  open Field F using (add-assoc, add-comm, add-zero, mul-assoc, mul-one, mul-add)
 
   infixl 60 _⊕_
   infixl 70 _⊗_
   infix 80 ⊖_
   -- differences x = p - n through the operations, without the sign
-  plus-parts : (x n p y m q : K) → x ⊕ n ≡ p → y ⊕ m ≡ q → (x ⊕ y) ⊕ (n ⊕ m) ≡ p ⊕ q
-  plus-parts x n p y m q e f = rw (← e, ← f) (simp (add-assoc, add-left-comm F))
+  plus-parts : {x n p y m q : K} → x ⊕ n ≡ p → y ⊕ m ≡ q → (x ⊕ y) ⊕ (n ⊕ m) ≡ p ⊕ q
+  plus-parts e f = rw (← e, ← f) (simp (add-assoc, add-left-comm F))
 
-  times-parts : (x n p y m q : K) → x ⊕ n ≡ p → y ⊕ m ≡ q → x ⊗ y ⊕ (p ⊗ m ⊕ n ⊗ q) ≡ p ⊗ q ⊕ n ⊗ m
-  times-parts x n p y m q e f = rw (← e, ← f) (simp (mul-add, add-mul F, add-assoc, add-left-comm F))
+  times-parts : {x n p y m q : K} → x ⊕ n ≡ p → y ⊕ m ≡ q → x ⊗ y ⊕ (p ⊗ m ⊕ n ⊗ q) ≡ p ⊗ q ⊕ n ⊗ m
+  times-parts e f = rw (← e, ← f) (simp (mul-add, add-mul F, add-assoc, add-left-comm F))
 
-  neg-parts : (x n p : K) → x ⊕ n ≡ p → ⊖ x ⊕ p ≡ n
-  neg-parts x n p e = rw (← e) (neg-add-cancel F x n)
+  neg-parts : {x n p : K} → x ⊕ n ≡ p → ⊖ x ⊕ p ≡ n
+  neg-parts {x} {n} e = rw (← e) (neg-add-cancel F x n)
 
   module _ (ρ : List K) where
     abbrev pub value : Expr → K
@@ -160,13 +165,13 @@ module _ {K : Type 0} {O : Ops K} (F : Field O) where
     normal-value one = refl
     normal-value (a ⊞ b) =
         ap (λ v. (value a ⊕ value b) ⊕ v) (sum-total (normal a .1) (normal b .1))
-        ∙ plus-parts (value a) (total (normal a .1)) (total (normal a .0)) (value b) (total (normal b .1)) (total (normal b .0)) (normal-value a) (normal-value b)
+        ∙ plus-parts (normal-value a) (normal-value b)
         ∙ sym (sum-total (normal a .0) (normal b .0))
     normal-value (a ⊠ b) =
         ap (λ v. value a ⊗ value b ⊕ v) (products-total (normal a .0) (normal b .1) (normal a .1) (normal b .0))
-        ∙ times-parts (value a) (total (normal a .1)) (total (normal a .0)) (value b) (total (normal b .1)) (total (normal b .0)) (normal-value a) (normal-value b)
+        ∙ times-parts (normal-value a) (normal-value b)
         ∙ sym (products-total (normal a .0) (normal b .0) (normal a .1) (normal b .1))
-    normal-value (⊟ a) = neg-parts (value a) (total (normal a .1)) (total (normal a .0)) (normal-value a)
+    normal-value (⊟ a) = neg-parts (normal-value a)
 
     -- what both sides are with the monomials of both that have the sign minus
     lifted : (a b : Expr) → (total (normal a .1) ⊕ total (normal b .1)) ⊕ value a ≡ total (sum (normal a .0) (normal b .1))

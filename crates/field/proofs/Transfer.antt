@@ -29,7 +29,7 @@ module _ {A B : Type 0} {O : Ops A} {P : Ops B} {h : A → B} (H : Hom O P h) wh
   values-kept cs [] = refl
   values-kept cs (x ∷ xs) = λ j. eval-kept cs x j ∷ values-kept cs xs j
 
-  pub power-kept : (x : A) (k : ℕ) → h (power O x k) ≡ power P (h x) k
+  power-kept : (x : A) (k : ℕ) → h (power O x k) ≡ power P (h x) k
   power-kept x zero = H .at-one
   power-kept x (suc k) = mul-kept refl (power-kept x k)
 

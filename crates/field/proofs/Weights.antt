@@ -12,7 +12,7 @@ use Rattle.field.specs.Polynomial.{eval, dot, gaps, weights, divided}
 use Rattle.field.proofs.ListLaws.{All-both}
 use Rattle.field.proofs.Solver.{Expr._⊞_, Expr._⊠_, _==_, solve}
 use Rattle.field.proofs.Reciprocal.{inv-one, inv-mul}
-use Rattle.field.proofs.Divided.{Off, diff, gaps-ne, inv-gaps, diff-same, degree}
+use Rattle.field.proofs.Divided.{Off, over, diff, gaps-ne, inv-gaps, diff-same, degree}
 
 -- x moves from the nodes that follow to those before
 pub off-next : {A : Type 0} (x : A) (before xs : List A) → Off x xs → All (λ y. Off y before) xs → All (λ y. Off y (x ∷ before)) xs
@@ -31,7 +31,7 @@ module _ {K : Type 0} {O : Ops K} (F : Field O) where
   weights-diff f before (x ∷ xs) d h =
       let u : K = inv (gaps O x before) in
       let v : K = inv (gaps O x xs) in
-      let f′ : K → K = λ y. f y ⊗ inv (gaps O y before) ⊗ inv (y ⊕ ⊖ x) in
+      let f′ : K → K = over O x (λ y. f y ⊗ inv (gaps O y before)) in
       let next : All (λ y. Off y (x ∷ before)) xs = off-next x before xs (d .0) (h .1) in
       let rest : dot O (map f xs) (weights O (x ∷ before) xs) ≡ diff O xs f′ =
       weights-diff f (x ∷ before) xs (d .1) next ∙ diff-same F xs (λ y. f y ⊗ inv (gaps O y (x ∷ before))) f′ (All-to xs apart next) in
