@@ -8,3 +8,4 @@ pub mod Carried
 pub mod Secret
 pub mod Place
 pub mod Theorems
+pub mod Figures
