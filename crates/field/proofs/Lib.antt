@@ -4,3 +4,14 @@ pub mod Primality
 pub mod Inverses
 pub mod Residues
 pub mod Loops
+pub mod ListLaws
+pub mod Ring
+pub mod Solver
+pub mod Reciprocal
+pub mod Divided
+pub mod Weights
+pub mod LinearForm
+pub mod Interpolate
+pub mod AtZero
+pub mod Transfer
+pub mod Theorems

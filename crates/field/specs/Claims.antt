@@ -78,7 +78,7 @@ LowDegree =
 -- the divided difference of the values times a polynomial is a linear form in its coefficients
 abbrev pub LinearForm : Type 0
 LinearForm =
-    (q : ℕ) → Prime q → (xs ys ds : List ℕ) → Nodes q xs ys → Below q ds
+    (q : ℕ) → Prime q → (xs ys ds : List ℕ) → Below q xs → Below q ys → Below q ds
     → divided (residueOps q) xs (products (residueOps q) ys (map (valueAt q ds) xs))
     ≡ dot (residueOps q) ds (map (λ k. divided (residueOps q) xs (scaled (residueOps q) k xs ys)) (upFrom 0 (length ds)))
 
