@@ -2,7 +2,7 @@
 use mathlib.Core.Path.{_≡_, sym, ap, _∙_}
 use mathlib.Core.Bool.{true, _&&_}
 use mathlib.Core.Logic.{⊎-elim}
-use Prim.Native.Nat.{ℕ, zero, suc, _+_, _*_, _%_, _≤_, _<_}
+use Prim.Native.Nat.{ℕ, zero, suc, _+_, _*_, _≤_, _<_}
 use native.Mathlib.Nat.{mul-comm, mul-zero, zero-mod, eq-zero-or-pos, pow-suc}
 use native.Mathlib.Omega.{arith}
 use lib.Dec.{leb, ltb, eqb}
@@ -11,7 +11,7 @@ use Rattle.words.proofs.Tests.{and-true, true-and}
 use Rattle.field.specs.Residue.{add, mul}
 use Rattle.field.proofs.Modular.{mul-below, mul-one}
 use Rattle.group.specs.Power.{pow}
-use Rattle.group.specs.Element.{isElement, isExponent, Generator, Proper}
+use Rattle.group.specs.Element.{isElement, isExponent, Proper}
 use Rattle.group.specs.Claims.{GeneratorElement, PowerOfSum, PowerOfProduct, ProductElement, PowerElement}
 use Rattle.group.specs.declared.Group.{Group}
 use Rattle.group.proofs.Powers.{pow-below, one-power, pow-sum, pow-product, pow-multiple, pow-period, product-of-powers}

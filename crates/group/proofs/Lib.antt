@@ -3,3 +3,4 @@ pub mod Powers
 pub mod Elements
 pub mod Logarithm
 pub mod Table
+pub mod Answers

@@ -4,16 +4,15 @@ use mathlib.Core.Path.{_≡_, refl, sym, ap, _∙_}
 use mathlib.Core.Bool.{true}
 use mathlib.Core.List.{List, [], _∷_}
 use mathlib.Core.Logic.{_⊎_, inl, inr, ⊎-elim}
-use Prim.Native.Nat.{ℕ, zero, suc, _+_, _-_, _*_, _%_, _≤_, _<_}
+use Prim.Native.Nat.{ℕ, zero, suc, _-_, _%_, _≤_, _<_}
 use native.Mathlib.Nat as N
-use native.Mathlib.Nat.{ mod-eq-of-lt, mul-zero, zero-add, zero-mod, eq-zero-or-pos}
+use native.Mathlib.Nat.{mod-eq-of-lt, mul-zero, zero-add, zero-mod, eq-zero-or-pos}
 use native.Mathlib.Decide.{ℕ-discrete}
 use native.Mathlib.Omega.{arith}
 use lib.ListN.{length, getD}
 use Rattle.words.specs.Lists.{All, Distinct, Below}
 use Rattle.words.proofs.Lists.{All-to}
 use Rattle.field.specs.Residue.{add, mul, neg, inv}
-use Rattle.field.specs.Prime.{Prime}
 use Rattle.field.specs.Polynomial.{valueAt}
 use Rattle.field.specs.Claims.{RootBound}
 use Rattle.field.proofs.Modular.{add-comm, add-assoc, add-zero, add-neg, add-below, mul-comm, mul-below, neg-below}
@@ -161,15 +160,15 @@ module _ (root-bound : RootBound) (G : Group) (P : Proper G) (b : ℕ) (B : Gene
   none-beside v k e m n =
       let h : 1 < G .p = P .prime-p .above-one in
       let z : _≡_ {A = ℕ} 0 1 =
-        sym
-        (root-bound (G .p) (P .prime-p) (suc k) (unity (G .p) h k) (v ∷ powers (G .q))
-        (neg-below (G .p) 1 (omega arith), monomial-low (G .p) h k)
-        (element-true G v m .low, powers-low (G .q))
-        (n, powers-distinct (G .q) (omega arith))
-        (ap suc (monomial-length k))
-        (ap suc (powers-length (G .q) ∙ sym e))
-        (All-to (v ∷ powers (G .q)) (λ x r. unity-root (G .p) h k x (ap (pow (G .p) x) e ∙ r)) (element-true G v m .order, powers-order (G .q))))
-        ∙ monomial-top k in
+      sym
+      (root-bound (G .p) (P .prime-p) (suc k) (unity (G .p) h k) (v ∷ powers (G .q))
+      (neg-below (G .p) 1 (omega arith), monomial-low (G .p) h k)
+      (element-true G v m .low, powers-low (G .q))
+      (n, powers-distinct (G .q) (omega arith))
+      (ap suc (monomial-length k))
+      (ap suc (powers-length (G .q) ∙ sym e))
+      (All-to (v ∷ powers (G .q)) (λ x r. unity-root (G .p) h k x (ap (pow (G .p) x) e ∙ r)) (element-true G v m .order, powers-order (G .q))))
+      ∙ monomial-top k in
       omega arith
 
   logarithm : (v : ℕ) → isElement G v ≡ true → Logarithm G b v

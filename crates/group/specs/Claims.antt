@@ -1,8 +1,8 @@
 -- What is claimed of powers and elements, for every proper group. A law on a generator b holds of g and of h.
 use mathlib.Core.Path.{_≡_}
-use mathlib.Core.Bool.{Bool, true, false}
+use mathlib.Core.Bool.{true}
 use mathlib.Core.Logic.{_↔_}
-use Prim.Native.Nat.{ℕ, _+_, _*_, _%_, _^_, _<_}
+use Prim.Native.Nat.{ℕ, _%_, _^_, _<_}
 use Rattle.field.specs.Residue.{add, mul}
 use Rattle.group.specs.Power.{pow, halvesPower}
 use Rattle.group.specs.Table.{isGroup, groupOf}

@@ -1,6 +1,6 @@
 -- The tests of posted figures, and what a proper group is. Nothing says that p is 2q + 1.
 use mathlib.Core.Path.{_≡_}
-use mathlib.Core.Bool.{Bool, true, false, _&&_}
+use mathlib.Core.Bool.{Bool, _&&_}
 use Prim.Native.Nat.{ℕ, _<_}
 use lib.Dec.{leb, ltb, eqb}
 use Rattle.field.specs.Prime.{Prime}

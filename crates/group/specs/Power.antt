@@ -1,9 +1,7 @@
 -- Powers modulo p.
-use mathlib.Core.Bool.{Bool, true, false}
 use Prim.Native.Nat.{ℕ, zero, suc, _*_, _/_, _%_, _^_}
 use lib.Dec.{eqb}
 use Rattle.words.specs.Choice.{pick}
-use Rattle.field.specs.Residue.{mul}
 
 -- what a power is; at large numerals it is computed by halvesPower instead
 unfoldable pub pow : ℕ → ℕ → ℕ → ℕ

@@ -7,7 +7,10 @@ mod arithmetic;
 mod membership;
 
 pub use arithmetic::raise;
-pub use membership::{all_elements, all_exponents, is_element, is_exponent};
+pub use membership::all_elements;
+pub use membership::all_exponents;
+pub use membership::is_element;
+pub use membership::is_exponent;
 
 // A residue modulo q.
 pub struct Exponent(pub u32);

@@ -2,20 +2,23 @@
 ghost use mathlib.Core.Path.{_≡_};
 ghost use Rattle.words.specs.Lists.{all};
 ghost use Rattle.group.specs.Element.{isElement, isExponent};
-
+use crate::Element;
+use crate::Exponent;
+use crate::Group;
 use crate::arithmetic::raise;
-use crate::{Element, Exponent, Group};
 
 pub fn is_element(gr: Group, v: Element) -> bool
     ensures { λ r. ⌜ r ≡ isElement gr (v .0) ⌝ }
 {
-    if v.0 < 1 {
+    let x = v.0;
+    let p = gr.p;
+    if x < 1 {
         return false;
     }
-    if v.0 >= gr.p {
+    if x >= p {
         return false;
     }
-    raise(gr.p, v, Exponent(gr.q)).0 == 1
+    raise(p, v, Exponent(gr.q)).0 == 1
 }
 
 pub fn is_exponent(gr: Group, e: Exponent) -> bool

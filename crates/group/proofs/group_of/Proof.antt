@@ -1,23 +1,36 @@
+-- `group_of` meets its contract: at each number of the table the definition computes to its group, at any other to the refusal.
+use mathlib.Core.Path.{_≡_}
+use mathlib.Core.Bool.{false}
+use Prim.Native.Nat.{ℕ}
+use native.Mathlib.Decide.{decLe}
+use native.Mathlib.Omega.{arith}
+use borrow.Author.Tests.{le-leb, lt-leb}
+use Rattle.group.specs.Table.{isGroup, groupOf}
 use Rattle.group.proofs.group_of.Statement.{statement}
 use Rattle.group.proofs.group_of.Tie as tie
-use Rattle.group.proofs.group_of.Reads as reads
-use Rattle.group.proofs.group_of.Lts as lts
 
--- src/lib.rt:37:1
 returns : tie.Need-returns
-returns c = ?
+unfolding isGroup groupOf
+returns c = rw (c .match .keys1)
 
--- src/lib.rt:37:1
 returns-2 : tie.Need-returns-2
-returns-2 c = ?
+unfolding isGroup groupOf
+returns-2 c = rw (c .match .keys2)
 
--- src/lib.rt:37:1
 returns-3 : tie.Need-returns-3
-returns-3 c = ?
+unfolding isGroup groupOf
+returns-3 c = rw (c .match .keys3)
 
--- src/lib.rt:37:1
+no-group : (k : ℕ) → (k ≡ 1 → ⊥) → (k ≡ 2 → ⊥) → (k ≡ 3 → ⊥) → isGroup k ≡ false
+unfolding isGroup
+no-group k a b c =
+    elim (decLe 1 k) [
+      | yes h ↦ simp (le-leb 1 k h, lt-leb k 3 (omega arith))
+      | no h ↦ simp (lt-leb 1 k (omega arith))
+    ]
+
 returns-4 : tie.Need-returns-4
-returns-4 c = ?
+returns-4 c = rw (no-group _ (c .match .rest .0 .0 .1) (c .match .rest .0 .1) (c .match .rest .1))
 
 pub group-of-spec : {M : Type 1} → statement M
 group-of-spec = tie.close (tie.spec returns returns-2 returns-3 returns-4)

@@ -1,50 +1,54 @@
+-- `all_elements` meets its contract. The loop's invariant: the numbers from i on pass exactly if all do.
+use mathlib.Core.Path.{_≡_, refl, sym, _∙_}
+use Prim.Native.Nat.{_-_, _≤_}
+use native.Mathlib.Omega.{arith}
+use borrow.Author.Needs.{needs}
+use borrow.Author.Tests.{not-true, not-false}
+use lib.ListN.{length, drop}
+use Rattle.words.specs.Lists.{all}
+use Rattle.words.proofs.Tests.{all-next, all-stop, all-end}
+use Rattle.group.specs.Element.{isElement}
 use Rattle.group.proofs.membership.all_elements.Statement.{statement}
 use Rattle.group.proofs.membership.all_elements.Tie as tie
-use Rattle.group.proofs.membership.all_elements.Reads as reads
-use Rattle.group.proofs.membership.all_elements.Lts as lts
-use Rattle.group.proofs.membership.is_element.Reads as is-element-reads
 
 abbrev Inv-loop : tie.InvT-loop
-Inv-loop gr vs i₀ i = ?
+Inv-loop gr vs i₀ i = (i ≤ length vs) × (all (isElement gr) vs ≡ all (isElement gr) (drop i vs))
 
 abbrev μ-loop : tie.MeasureT-loop
-μ-loop gr vs i₀ i = ?
+μ-loop gr vs i₀ i = length vs - i
 
--- src/membership.rt:31:5
 loop-holds : tie.Need-loop-holds Inv-loop μ-loop
-loop-holds c = ?
+loop-holds c = (omega arith, refl)
 
--- src/membership.rt:32:36
 mul-t4 : tie.Need-mul-t4 Inv-loop μ-loop
-mul-t4 c = ?
+mul-t4 c = search needs
 
--- src/membership.rt:32:36
 shared-slice-read-t7 : tie.Need-shared-slice-read-t7 Inv-loop μ-loop
-shared-slice-read-t7 c = ?
+shared-slice-read-t7 c = search needs
 
--- src/membership.rt:32:13
 is-element-requires : tie.Need-is-element-requires Inv-loop μ-loop
-is-element-requires c κs = ?
+is-element-requires c κs = search needs
 
--- src/membership.rt:33:13
 returns : tie.Need-returns Inv-loop μ-loop
-returns c = ?
+returns c =
+    let i = c .before .before .before .before .loop in
+    sym (i .inv .1 ∙ all-stop _ _ (i .i) 0 (c .before .before .before .loop-test .taken) (sym (c .before .is-element .ensures) ∙ not-true _ (c .if1 .taken)))
 
--- src/membership.rt:35:9
 add-i : tie.Need-add-i Inv-loop μ-loop
-add-i c = ?
+add-i c = search needs
 
--- src/membership.rt:31:5
 loop-less : tie.Need-loop-less Inv-loop μ-loop
-loop-less c = ?
+loop-less c = search needs
 
--- src/membership.rt:31:5
 loop-again : tie.Need-loop-again Inv-loop μ-loop
-loop-again c = ?
+loop-again c =
+    let i = c .before .before .before .before .loop in
+    (omega arith, i .inv .1 ∙ all-next _ _ (i .i) 0 (c .before .before .before .loop-test .taken) (sym (c .before .is-element .ensures) ∙ not-false _ (c .if1 .left)))
 
--- src/membership.rt:27:1
 returns-2 : tie.Need-returns-2 Inv-loop μ-loop
-returns-2 c = ?
+returns-2 c =
+    let e : c .before .loop .i ≡ length (c .before .before .before .args .vs .now) = omega arith in
+    sym (c .before .loop .inv .1 ∙ all-end _ _ _ e)
 
 pub all-elements-spec : {M : Type 1} → statement M
 all-elements-spec =

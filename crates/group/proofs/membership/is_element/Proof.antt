@@ -1,25 +1,26 @@
+-- `is_element` meets its contract: each test that fails decides, and where 1 and p bound v, p is above 1 as `raise` asks.
 use borrow.Author.Needs.{needs}
+use borrow.Author.Tests.{lt-leb, le-leb, le-ltb, lt-ltb}
+use Rattle.group.specs.Element.{isElement}
 use Rattle.group.proofs.membership.is_element.Statement.{statement}
 use Rattle.group.proofs.membership.is_element.Tie as tie
-use Rattle.group.proofs.membership.is_element.Reads as reads
-use Rattle.group.proofs.membership.is_element.Lts as lts
-use Rattle.group.proofs.arithmetic.raise.Reads as raise-reads
 
--- src/membership.rt:13:9
 returns : tie.Need-returns
-returns c = ?
+unfolding isElement
+returns c = simp (lt-leb 1 _ (c .if1 .taken))
 
--- src/membership.rt:16:9
 returns-2 : tie.Need-returns-2
-returns-2 c = ?
+unfolding isElement
+returns-2 c = simp (le-leb 1 _ (c .before .if1 .left), le-ltb _ _ (c .if2 .taken))
 
--- src/membership.rt:18:5
 raise-requires : tie.Need-raise-requires
 raise-requires c κs = search needs
 
--- src/membership.rt:9:1
 returns-3 : tie.Need-returns-3
-returns-3 c = ?
+unfolding isElement
+returns-3 c =
+    let d = c .before .before in
+    simp (le-leb 1 _ (d .before .if1 .left), lt-ltb _ _ (d .if2 .left), c .before .raise .ensures)
 
 pub is-element-spec : {M : Type 1} → statement M
 is-element-spec = tie.close (tie.spec returns returns-2 raise-requires returns-3)
