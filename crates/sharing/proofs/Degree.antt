@@ -6,7 +6,7 @@ use mathlib.Core.List.{List, []}
 use mathlib.Core.Logic.{_↔_, inl, inr}
 use Prim.Native.Nat.{ℕ, _-_, _<_}
 use native.Mathlib.Omega.{arith}
-use borrow.Author.Tests.{eq-eqb, eqb-true, lt-ltb, ltb-true}
+use borrow.Author.Tests.{eq-eqb, eqb-true}
 use lib.ListN.{length, getD}
 use lib.Dec.{eqb}
 use Rattle.words.specs.Lists.{All, Below, map, all, upFrom}
@@ -21,6 +21,7 @@ use Rattle.field.proofs.Theorems.{linear-form}
 use Rattle.group.specs.Power.{pow}
 use Rattle.group.specs.Element.{isExponent}
 use Rattle.group.specs.declared.Group.{Group}
+use Rattle.group.proofs.Elements.{exponent-true, true-exponent}
 use Rattle.sharing.specs.Round.{groupIn, roundChecks, members}
 use Rattle.sharing.specs.Weights.{weightsOf, powers}
 use Rattle.sharing.specs.Answer.{degreeProduct, degreeChecks, degreeOutcome}
@@ -34,12 +35,10 @@ use Rattle.sharing.proofs.Rounds.{Ready, ready, member-nodes}
 -- ---- exponents below q, as a test
 module _ (G : Group) (es : List ℕ) where
   exponents-low : all (isExponent G) es ≡ true → Below (G .q) es
-  unfolding isExponent
-  exponents-low h = All-to es (λ e. ltb-true e (G .q)) (all-true (isExponent G) es h)
+  exponents-low h = All-to es (exponent-true G) (all-true (isExponent G) es h)
 
   low-exponents : Below (G .q) es → all (isExponent G) es ≡ true
-  unfolding isExponent
-  low-exponents h = true-all (isExponent G) es (All-to es (λ e. lt-ltb e (G .q)) h)
+  low-exponents h = true-all (isExponent G) es (All-to es (true-exponent G) h)
 
 -- ---- the checks before the product
 module _ (R : Round) (vs ds : List ℕ) where

@@ -4,7 +4,7 @@ use mathlib.Core.Bool.{true}
 use mathlib.Core.List.{List, [], _∷_}
 use mathlib.Core.Logic.{_↔_}
 use Prim.Native.Nat.{ℕ, _<_}
-use native.Mathlib.Nat.{pow-zero, mod-eq-of-lt, zero-mod}
+use native.Mathlib.Nat.{mod-eq-of-lt, zero-mod}
 use Rattle.words.specs.Lists.{All, Below, map, all}
 use Rattle.words.proofs.Lists.{All-each, map-all}
 use Rattle.words.proofs.Tests.{all-true, true-all}
@@ -14,6 +14,7 @@ use Rattle.field.proofs.Theorems.{root-bound}
 use Rattle.group.specs.Power.{pow}
 use Rattle.group.specs.Element.{isElement, Generator, Proper}
 use Rattle.group.specs.declared.Group.{Group}
+use Rattle.group.proofs.Powers.{pow-none}
 use Rattle.group.proofs.Elements.{generator-element, power-element, power-of-sum, power-of-product}
 use Rattle.group.proofs.Logarithm.{same-power, elements-are-powers}
 use Rattle.sharing.specs.Weights.{powers}
@@ -26,8 +27,7 @@ pub record Exponents (G : Group) (b : ℕ) (vs es : List ℕ) : Type 0 where
 
 module _ (G : Group) (P : Proper G) (b : ℕ) (B : Generator G b) where
   power-zero : pow (G .p) b 0 ≡ 1
-  unfolding pow
-  power-zero = rw pow-zero (mod-eq-of-lt (P .prime-p .above-one))
+  power-zero = pow-none (G .p) b (P .prime-p .above-one)
 
   -- only the exponent 0 gives 1
   pub one-exactly : (e : ℕ) → e < G .q → (pow (G .p) b e ≡ 1) ↔ (e ≡ 0)

@@ -3,10 +3,10 @@
 use mathlib.Core.Path.{_≡_, sym, ap, _∙_}
 use mathlib.Core.Bool.{true, _&&_}
 use mathlib.Core.List.{List}
-use Prim.Native.Nat.{ℕ, _≤_, _<_}
+use Prim.Native.Nat.{ℕ, _≤_}
 use native.Mathlib.Nat.{mod-eq-of-lt}
 use native.Mathlib.Omega.{arith}
-use borrow.Author.Tests.{eq-eqb, eqb-true, lt-ltb, ltb-true, le-leb}
+use borrow.Author.Tests.{eq-eqb, eqb-true, le-leb}
 use lib.ListN.{length, take}
 use lib.Dec.{leb}
 use Rattle.words.specs.Lists.{map, all, noneTwice}
@@ -17,9 +17,10 @@ use Rattle.words.proofs.Checks.{value-exactly}
 use Rattle.field.specs.Polynomial.{valueAt}
 use Rattle.field.proofs.Theorems.{value-at-zero}
 use Rattle.group.specs.Power.{pow}
-use Rattle.group.specs.Element.{isElement, isExponent, Generator}
+use Rattle.group.specs.Element.{isElement, Generator}
 use Rattle.group.specs.declared.Element.{Element}
 use Rattle.group.specs.declared.Group.{Group}
+use Rattle.group.proofs.Elements.{exponent-true, true-exponent}
 use Rattle.group.proofs.Logarithm.{same-power}
 use Rattle.sharing.specs.Round.{groupIn, roundChecks, isMember, members}
 use Rattle.sharing.specs.Weights.{lagrangeAt, powers}
@@ -81,19 +82,19 @@ module _ (R : Round) (m : Met (roundChecks R)) (cs vs : List ℕ) (K : Carries R
       ∙ recovered-secret R m cs (K .polynomial) (G .g .0) (Y .proper .g-generates) (members (R .t)) (first-quorum Y)
 
   pub opens-only : (u : ℕ) → openingOutcome R vs u ≡ value tt → u ≡ secretOf R cs
-  unfolding openingOutcome isExponent
+  unfolding openingOutcome
   opens-only u e =
       let G : Group = groupIn R in
       let P = ready R m .proper in
       let c = value-exactly Unit (openingChecks R vs u) tt .0 e in
-      let low : u < G .q = ltb-true u (G .q) (c .1 .1 .1 .1 .0) in
+      let low = exponent-true G u (c .1 .1 .1 .1 .0) in
       let same = same-power G P (G .g .0) (P .g-generates) u (secretOf R cs) .0 (eqb-true _ _ (c .1 .1 .1 .1 .1 .0) ∙ first-secret) in
       sym (mod-eq-of-lt low) ∙ same ∙ mod-eq-of-lt (value-below (G .q) (P .prime-q) cs 0)
 
   pub opens : openingOutcome R vs (secretOf R cs) ≡ value tt
-  unfolding openingOutcome isExponent
+  unfolding openingOutcome
   opens =
       let C = carried-commitments R m cs vs K in
-      let low : secretOf R cs < groupIn R .q = value-below (groupIn R .q) (ready R m .proper .prime-q) cs 0 in
+      let low = true-exponent (groupIn R) (secretOf R cs) (value-below (groupIn R .q) (ready R m .proper .prime-q) cs 0) in
       value-exactly Unit (openingChecks R vs (secretOf R cs)) tt .1
-      (m .0, (m .1 .0, (eq-eqb (length vs) (R .n) (C .size), (C .elements, (lt-ltb _ _ low, (eq-eqb _ _ (sym first-secret), tt))))))
+      (m .0, (m .1 .0, (eq-eqb (length vs) (R .n) (C .size), (C .elements, (low, (eq-eqb _ _ (sym first-secret), tt))))))
