@@ -1,29 +1,27 @@
 -- Commitments that a polynomial of degree below t carries: they are those whose sums are all 0, so every check polynomial passes.
 use mathlib.Core.Path.{_≡_, refl, sym, ap, _∙_}
-use mathlib.Core.Bool.{true, false}
 use mathlib.Core.List.{List, [], _∷_}
 use Prim.Native.Nat.{ℕ, _+_, _-_, _<_}
 use native.Mathlib.Omega.{arith}
 use lib.ListN.{length}
-use Rattle.words.specs.Lists.{Below, map, all}
+use Rattle.words.specs.Lists.{map, all}
 use Rattle.words.specs.Checks.{Met}
 use Rattle.words.proofs.Lists.{All-each, map-length, map-all, map-comp, up-length}
 use Rattle.field.specs.Prime.{Prime}
 use Rattle.field.specs.Residue.{mul}
 use Rattle.field.specs.Polynomial.{valueAt}
-use Rattle.field.specs.Claims.{Takes}
 use Rattle.field.proofs.Modular.{add-below}
-use Rattle.field.proofs.Inverse.{positive}
+use Rattle.field.proofs.Inverses.{positive}
+use Rattle.field.proofs.Theorems.{low-degree}
 use Rattle.group.specs.Power.{pow}
 use Rattle.group.specs.Element.{isElement}
 use Rattle.group.specs.declared.Group.{Group}
 use Rattle.sharing.specs.Round.{groupIn, roundChecks, members}
 use Rattle.sharing.specs.Carried.{powersAt, Carries, Commitments, CheckPolynomial, Passes, sumAt, sumsAt}
 use Rattle.sharing.specs.declared.Round.{Round}
-use Rattle.sharing.proofs.Pending.{low-degree}
 use Rattle.sharing.proofs.Linear.{form-zero}
 use Rattle.sharing.proofs.Generators.{Exponents, powers-elements}
-use Rattle.sharing.proofs.Rounds.{Ready, ready}
+use Rattle.sharing.proofs.Rounds.{ready}
 use Rattle.sharing.proofs.Degree.{sums-all, nodes, passes-exactly}
 
 pub value-below : (q : ℕ) → Prime q → (cs : List ℕ) (x : ℕ) → valueAt q cs x < q
@@ -60,7 +58,9 @@ module _ (R : Round) (m : Met (roundChecks R)) where
     values-exponents =
         let G : Group = groupIn R in
         record {
-          low = map-all (valueAt (G .q) cs) (λ x. x < G .q) (members (R .n)) (All-each (members (R .n)) (value-below (G .q) (ready R m .proper .prime-q) cs));
+          low =
+              map-all (valueAt (G .q) cs) (λ x. x < G .q) (members (R .n))
+              (All-each (members (R .n)) (value-below (G .q) (ready R m .proper .prime-q) cs));
           each = K .each ∙ sym (map-comp (valueAt (G .q) cs) (pow (G .p) (G .g .0)) (members (R .n)));
         }
 

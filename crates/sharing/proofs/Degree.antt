@@ -1,11 +1,12 @@
--- The degree check by the exponents of the commitments. Its product is g to a linear form in the check polynomial, so it passes exactly if the form is 0.
+-- The degree check by the exponents of the commitments: its product is g to a linear form in the check polynomial.
+-- So it passes exactly if the form is 0.
 use mathlib.Core.Path.{_≡_, refl, sym, ap, _∙_}
 use mathlib.Core.Bool.{Bool, true, false, _&&_}
-use mathlib.Core.List.{List, [], _∷_}
+use mathlib.Core.List.{List, []}
 use mathlib.Core.Logic.{_↔_, inl, inr}
 use Prim.Native.Nat.{ℕ, _-_, _<_}
 use native.Mathlib.Omega.{arith}
-use borrow.Author.Tests.{eq-eqb, eqb-true, lt-ltb, ltb-true}
+use borrow.Author.Tests.{eq-eqb, eqb-true}
 use lib.ListN.{length, getD}
 use lib.Dec.{eqb}
 use Rattle.words.specs.Lists.{All, Below, map, all, upFrom}
@@ -16,15 +17,16 @@ use Rattle.words.proofs.Checks.{value-exactly, refused-exactly}
 use Rattle.field.specs.Residue.{residueOps}
 use Rattle.field.specs.Polynomial.{dot, weights, scaled}
 use Rattle.field.specs.Claims.{Nodes}
+use Rattle.field.proofs.Theorems.{linear-form}
 use Rattle.group.specs.Power.{pow}
-use Rattle.group.specs.Element.{isElement, isExponent}
+use Rattle.group.specs.Element.{isExponent}
 use Rattle.group.specs.declared.Group.{Group}
+use Rattle.group.proofs.Elements.{exponent-true, true-exponent}
 use Rattle.sharing.specs.Round.{groupIn, roundChecks, members}
 use Rattle.sharing.specs.Weights.{weightsOf, powers}
 use Rattle.sharing.specs.Answer.{degreeProduct, degreeChecks, degreeOutcome}
 use Rattle.sharing.specs.Carried.{Commitments, CheckPolynomial, Passes, sumAt, sumsAt}
 use Rattle.sharing.specs.declared.Round.{Round}
-use Rattle.sharing.proofs.Pending.{linear-form}
 use Rattle.sharing.proofs.Others.{weights-divided}
 use Rattle.sharing.proofs.Linear.{form-below}
 use Rattle.sharing.proofs.Generators.{Exponents, one-exactly, powers-of}
@@ -33,12 +35,10 @@ use Rattle.sharing.proofs.Rounds.{Ready, ready, member-nodes}
 -- ---- exponents below q, as a test
 module _ (G : Group) (es : List ℕ) where
   exponents-low : all (isExponent G) es ≡ true → Below (G .q) es
-  unfolding isExponent
-  exponents-low h = All-to es (λ e. ltb-true e (G .q)) (all-true (isExponent G) es h)
+  exponents-low h = All-to es (exponent-true G) (all-true (isExponent G) es h)
 
   low-exponents : Below (G .q) es → all (isExponent G) es ≡ true
-  unfolding isExponent
-  low-exponents h = true-all (isExponent G) es (All-to es (λ e. lt-ltb e (G .q)) h)
+  low-exponents h = true-all (isExponent G) es (All-to es (true-exponent G) h)
 
 -- ---- the checks before the product
 module _ (R : Round) (vs ds : List ℕ) where
@@ -103,28 +103,30 @@ module _ (R : Round) (es : List ℕ) where
 
 -- ---- commitments by their exponents
 module _ (R : Round) (m : Met (roundChecks R)) (vs es : List ℕ) (C : Commitments R vs) (E : Exponents (groupIn R) (groupIn R .g .0) vs es) where
-  pub exponents-size : length es ≡ R .n
+  exponents-size : length es ≡ R .n
   exponents-size = sym (map-length (pow (groupIn R .p) (groupIn R .g .0)) es) ∙ ap length (sym (E .each)) ∙ C .size
 
   pub nodes : Nodes (groupIn R .q) (members (R .n)) es
   nodes = member-nodes (ready R m) es (E .low) exponents-size
 
   module _ (ds : List ℕ) (D : CheckPolynomial R ds) where
-    degree-form : degreeProduct (groupIn R) (R .n) vs ds ≡ pow (groupIn R .p) (groupIn R .g .0) (dot (residueOps (groupIn R .q)) ds (sumsAt R es))
+    degree-form : degreeProduct (groupIn R) (R .n) vs ds
+        ≡ pow (groupIn R .p) (groupIn R .g .0) (dot (residueOps (groupIn R .q)) ds (sumsAt R es))
     unfolding degreeProduct sumsAt sumAt
     degree-form =
         let G : Group = groupIn R in
-        let Y = ready R m in
+        let P = ready R m .proper in
         ap (λ l. powers (G .p) l (weightsOf (G .q) (R .n) ds)) (E .each)
-        ∙ powers-of G (Y .proper) (G .g .0) (Y .proper .g-generates) es (weightsOf (G .q) (R .n) ds)
+        ∙ powers-of G P (G .g .0) (P .g-generates) es (weightsOf (G .q) (R .n) ds)
         ∙ ap (pow (G .p) (G .g .0))
-        (weights-divided (G .q) (Y .proper .prime-q .above-one) (R .n) es ds
-        ∙ linear-form (G .q) (Y .proper .prime-q) (members (R .n)) es ds nodes (D .low)
+        (weights-divided (G .q) (P .prime-q .above-one) (R .n) es ds
+        ∙ linear-form (G .q) (P .prime-q) (members (R .n)) es ds (nodes .nodes-low) (E .low) (D .low)
         ∙ ap (λ k. dot (residueOps (G .q)) ds (map (sumAt R es) (upFrom 0 k))) (D .size))
 
     pub passes-exactly : Passes R vs ds ↔ (dot (residueOps (groupIn R .q)) ds (sumsAt R es) ≡ 0)
     passes-exactly =
-        let Y = ready R m in
-        let o = one-exactly (groupIn R) (Y .proper) (groupIn R .g .0) (Y .proper .g-generates) (dot (residueOps (groupIn R .q)) ds (sumsAt R es))
-        (form-below (groupIn R .q) (Y .proper .prime-q) ds (sumsAt R es)) in
+        let G : Group = groupIn R in
+        let P = ready R m .proper in
+        let form : ℕ = dot (residueOps (G .q)) ds (sumsAt R es) in
+        let o = one-exactly G P (G .g .0) (P .g-generates) form (form-below (G .q) (P .prime-q) ds (sumsAt R es)) in
         (λ e. o .0 (sym degree-form ∙ passes-product R vs ds m C D e), λ z. product-passes R vs ds m C D (degree-form ∙ o .1 z))

@@ -1,22 +1,24 @@
 -- Products of powers of a generator b, by their exponents: the power of each sum. All hold of any proper group, for g and for h.
 use mathlib.Core.Path.{_≡_, refl, sym, ap, _∙_}
-use mathlib.Core.Bool.{true, false}
+use mathlib.Core.Bool.{true}
 use mathlib.Core.List.{List, [], _∷_}
 use mathlib.Core.Logic.{_↔_}
-use Prim.Native.Nat.{ℕ, suc, _%_, _^_, _<_}
-use native.Mathlib.Nat.{pow-zero, mod-eq-of-lt, zero-mod}
-use lib.ListN.{length}
+use Prim.Native.Nat.{ℕ, _<_}
+use native.Mathlib.Nat.{mod-eq-of-lt, zero-mod}
 use Rattle.words.specs.Lists.{All, Below, map, all}
-use Rattle.words.proofs.Lists.{All-each, map-all, map-comp}
+use Rattle.words.proofs.Lists.{All-each, map-all}
 use Rattle.words.proofs.Tests.{all-true, true-all}
-use Rattle.field.specs.Residue.{add, mul, residueOps}
+use Rattle.field.specs.Residue.{mul, residueOps}
 use Rattle.field.specs.Polynomial.{dot, valueAt}
+use Rattle.field.proofs.Theorems.{root-bound}
 use Rattle.group.specs.Power.{pow}
 use Rattle.group.specs.Element.{isElement, Generator, Proper}
 use Rattle.group.specs.declared.Group.{Group}
+use Rattle.group.proofs.Powers.{pow-none}
+use Rattle.group.proofs.Elements.{generator-element, power-element, power-of-sum, power-of-product}
+use Rattle.group.proofs.Logarithm.{same-power, elements-are-powers}
 use Rattle.sharing.specs.Weights.{powers}
 use Rattle.sharing.specs.Carried.{powersAt}
-use Rattle.sharing.proofs.Pending.{same-power, elements-are-powers, power-of-sum, power-of-product, generator-element, power-element}
 
 -- exponents below q of which the figures are the powers of b
 pub record Exponents (G : Group) (b : ℕ) (vs es : List ℕ) : Type 0 where
@@ -25,8 +27,7 @@ pub record Exponents (G : Group) (b : ℕ) (vs es : List ℕ) : Type 0 where
 
 module _ (G : Group) (P : Proper G) (b : ℕ) (B : Generator G b) where
   power-zero : pow (G .p) b 0 ≡ 1
-  unfolding pow
-  power-zero = rw pow-zero (mod-eq-of-lt (P .prime-p .above-one))
+  power-zero = pow-none (G .p) b (P .prime-p .above-one)
 
   -- only the exponent 0 gives 1
   pub one-exactly : (e : ℕ) → e < G .q → (pow (G .p) b e ≡ 1) ↔ (e ≡ 0)
@@ -59,6 +60,6 @@ module _ (G : Group) (P : Proper G) (b : ℕ) (B : Generator G b) where
       of : (vs : List ℕ) → All (λ v. isElement G v ≡ true) vs → (es : List ℕ) × Exponents G b vs es
       of [] h = ([], record { low = tt; each = refl })
       of (v ∷ vs) h =
-          let l = elements-are-powers G P b B v .0 (h .0) in
+          let l = elements-are-powers root-bound G P b B v .0 (h .0) in
           let r = of vs (h .1) in
           (l .log ∷ r .0, record { low = (l .low, r .1 .low); each = λ j. l .power j ∷ r .1 .each j })

@@ -1,4 +1,4 @@
--- Proofs of what specs/Claims.antt states.
+-- Proofs of what specs/Claims.antt states, and the laws that the code's proofs share.
 pub mod Others
 pub mod Linear
 pub mod Generators
@@ -8,3 +8,4 @@ pub mod Carried
 pub mod Secret
 pub mod Place
 pub mod Theorems
+pub mod Figures

@@ -1,10 +1,11 @@
--- Linear forms modulo a prime q: the sum of the products of coefficients and sums, at a unit and at two lists that differ at one place.
--- The difference of two such forms is that of the coefficients at the place, times the sum there; where that sum is not 0, equal forms have equal coefficients.
+-- Linear forms modulo a prime q: the sum of c_k times z_k over the places k of two lists.
+-- Where two lists of c differ at one place, their forms differ by the difference there times z there; so if that z is not 0,
+-- equal forms have equal c there.
 use mathlib.Core.Path.{_≡_, refl, sym, ap, _∙_}
 use mathlib.Core.List.{List, [], _∷_}
 use Prim.Native.Nat.{ℕ, zero, suc, _%_, _<_}
 use native.Mathlib.Nat as N
-use native.Mathlib.Nat.{mod-eq-of-lt, zero-mod, not-suc-le-zero, le-of-suc-le-suc}
+use native.Mathlib.Nat.{zero-mod, not-suc-le-zero, le-of-suc-le-suc}
 use native.Mathlib.Omega.{arith}
 use lib.ListN.{length, getD, replicate}
 use lib.Seq.{ext-getD}
@@ -14,7 +15,7 @@ use Rattle.field.specs.Residue.{add, mul, inv, residueOps}
 use Rattle.field.specs.Prime.{Prime}
 use Rattle.field.specs.Polynomial.{dot}
 use Rattle.field.proofs.Modular.{add-comm, add-assoc, add-zero, add-below, mul-comm, mul-assoc, mul-one, mul-below}
-use Rattle.field.proofs.Inverse.{positive, mul-inv}
+use Rattle.field.proofs.Inverses.{positive, mul-inv}
 use Rattle.sharing.specs.Carried.{unitAt, AgreeOff}
 
 mul-zero : (q a : ℕ) → mul q a 0 ≡ 0
@@ -39,7 +40,7 @@ module _ (q : ℕ) (P : Prime q) where
   form-below (c ∷ cs) [] = positive q P
   form-below (c ∷ cs) (z ∷ zs) = add-below q (mul q c z) (form cs zs) (positive q P)
 
-  -- where every sum is 0
+  -- every z is 0
   pub form-zero : (cs zs : List ℕ) → All (λ z. z ≡ 0) zs → form cs zs ≡ 0
   form-zero [] zs h = refl
   form-zero (c ∷ cs) [] h = refl
@@ -51,7 +52,7 @@ module _ (q : ℕ) (P : Prime q) where
   form-zeros (suc m) [] = refl
   form-zeros (suc m) (z ∷ zs) = (λ j. add q (zero-mul q z j) (form-zeros m zs j)) ∙ add-zero q 0 (positive q P)
 
-  -- a unit picks the sum at its place
+  -- a unit picks the z at its place
   pub form-unit : (k m : ℕ) (zs : List ℕ) → length zs ≡ m → k < m → Below q zs → form (unitAt k m) zs ≡ getD zs k 0
   form-unit k zero zs l h b = absurd (not-suc-le-zero h)
   form-unit k (suc m) [] l h b = absurd (omega arith)
@@ -62,7 +63,7 @@ module _ (q : ℕ) (P : Prime q) where
       ∙ zero-add (form (unitAt k m) zs) (form-below (unitAt k m) zs)
       ∙ form-unit k m zs (omega arith) (le-of-suc-le-suc h) (b .1)
 
-  -- ---- two lists that differ at one place: the difference of the forms is that of the products at the place
+  -- ---- two lists that differ at one place: the difference of the forms is that of the products there
   swap : (a b c : ℕ) → add q (add q a b) c ≡ add q (add q c b) a
   swap a b c = add-comm q (add q a b) c ∙ ap (add q c) (add-comm q a b) ∙ sym (add-assoc q c b a)
 
@@ -87,7 +88,7 @@ module _ (q : ℕ) (P : Prime q) where
       back : (a : ℕ) → a < q → mul q (mul q a z) (inv q z) ≡ a
       back a h = mul-assoc q a z (inv q z) ∙ ap (mul q a) (mul-inv q P z p) ∙ mul-one q a h
 
-  -- where the sum at the place is not 0, one value there makes the form 0
+  -- where z at the place is not 0, at most one value there makes the form 0
   pub form-once : (k : ℕ) (cs ds zs : List ℕ) → length cs ≡ length ds → k < length ds → Below q cs → Below q ds → AgreeOff k cs ds
       → 0 < getD zs k 0 % q → form cs zs ≡ 0 → form ds zs ≡ 0 → getD cs k 0 ≡ getD ds k 0
   form-once k cs ds zs l h hc hd a p ec ed =

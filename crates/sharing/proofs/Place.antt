@@ -1,8 +1,8 @@
--- The place that commitments fix. The unit check polynomial of a place passes exactly if the sum there is 0; so where every unit passes a polynomial
--- carries the commitments, and at the lowest place whose unit does not pass the sum is not 0, which leaves one value there.
+-- The place that commitments fix. The unit check polynomial of a place passes exactly if the sum there is 0. So where every unit passes
+-- a polynomial carries the commitments, and at the lowest place whose unit does not pass the sum is not 0, which leaves one value there.
 use mathlib.Core.Path.{_≡_, refl, sym, ap, _∙_}
 use mathlib.Core.Bool.{Bool, true, false}
-use mathlib.Core.List.{List, [], _∷_}
+use mathlib.Core.List.{List}
 use mathlib.Core.Logic.{_↔_, _⊎_, inl, inr, ⊎-elim}
 use Prim.Native.Nat.{ℕ, zero, suc, _+_, _-_, _%_, _≤_, _<_}
 use native.Mathlib.Nat.{mod-eq-of-lt, eq-zero-or-pos}
@@ -27,10 +27,10 @@ use Rattle.sharing.proofs.Degree.{passed-polynomial, refused-nine, sums
 use Rattle.sharing.proofs.Carried.{sums-carried}
 
 -- ---- the lowest number at which a test is false
-pub record Lowest (f : ℕ → Bool) (k m r : ℕ) : Type 0 where
-  pub from : k ≤ r
-  pub lower : (j : ℕ) → k ≤ j → j < r → f j ≡ true
-  pub here : (r ≡ k + m) ⊎ ((r < k + m) × (f r ≡ false))
+record Lowest (f : ℕ → Bool) (k m r : ℕ) : Type 0 where
+  from : k ≤ r
+  lower : (j : ℕ) → k ≤ j → j < r → f j ≡ true
+  here : (r ≡ k + m) ⊎ ((r < k + m) × (f r ≡ false))
 
 lowest-is : (f : ℕ → Bool) (k m : ℕ) → Lowest f k m (lowest f k m)
 lowest-is f k zero = record { from = omega arith; lower = λ j h l. absurd (omega arith); here = inl (omega arith) }
@@ -79,7 +79,7 @@ module _ (R : Round) (m : Met (roundChecks R)) (vs es : List ℕ) (C : Commitmen
   unit-polynomial k =
       record { size = unit-length k (R .n - R .t); low = unit-low (groupIn R .q) k (R .n - R .t) (ready R m .proper .prime-q .above-one) }
 
-  pub unit-exactly : (k : ℕ) → k < R .n - R .t → Passes R vs (unit k) ↔ (sumAt R es k ≡ 0)
+  unit-exactly : (k : ℕ) → k < R .n - R .t → Passes R vs (unit k) ↔ (sumAt R es k ≡ 0)
   unit-exactly k h =
       let p = passes-exactly R m vs es C E (unit k) (unit-polynomial k) in
       let s : dot (residueOps (groupIn R .q)) (unit k) (sumsAt R es) ≡ sumAt R es k =
@@ -89,22 +89,23 @@ module _ (R : Round) (m : Met (roundChecks R)) (vs es : List ℕ) (C : Commitmen
       (λ e. sym s ∙ p .0 e, λ z. p .1 (s ∙ z))
 
   -- one value passes at a place whose unit does not
-  pub one-value : (k : ℕ) → k < R .n - R .t → (Passes R vs (unit k) → ⊥) → (cs ds : List ℕ) → Passes R vs cs → Passes R vs ds → AgreeOff k cs ds
-      → getD cs k 0 ≡ getD ds k 0
+  one-value : (k : ℕ) → k < R .n - R .t → (Passes R vs (unit k) → ⊥)
+      → (cs ds : List ℕ) → Passes R vs cs → Passes R vs ds → AgreeOff k cs ds → getD cs k 0 ≡ getD ds k 0
   one-value k h n cs ds pc pd a =
       let c = passed-polynomial R vs cs pc in
       let d = passed-polynomial R vs ds pd in
-      let s : getD (sumsAt R es) k 0 % groupIn R .q ≡ sumAt R es k =
+      let z : getD (sumsAt R es) k 0 % groupIn R .q ≡ sumAt R es k =
       ap (λ z. z % groupIn R .q) (sums-at R es k h) ∙ mod-eq-of-lt (sum-low R es (ready R m) k) in
-      let some : 0 < sumAt R es k = ⊎-elim (λ z. absurd (n (unit-exactly k h .1 z))) (λ p. p) (eq-zero-or-pos (sumAt R es k)) in
-      form-once (groupIn R .q) (ready R m .proper .prime-q) k cs ds (sumsAt R es) (c .size ∙ sym (d .size)) (omega (arith, d .size)) (c .low) (d .low) a
-      (omega (arith, s, some)) (passes-exactly R m vs es C E cs c .0 pc) (passes-exactly R m vs es C E ds d .0 pd)
+      let nonzero : 0 < sumAt R es k = ⊎-elim (λ e. absurd (n (unit-exactly k h .1 e))) (λ p. p) (eq-zero-or-pos (sumAt R es k)) in
+      form-once (groupIn R .q) (ready R m .proper .prime-q) k cs ds (sumsAt R es) (c .size ∙ sym (d .size)) (omega (arith, d .size))
+      (c .low) (d .low) a (omega arith) (passes-exactly R m vs es C E cs c .0 pc) (passes-exactly R m vs es C E ds d .0 pd)
 
   pub carried-or-one : ((cs : List ℕ) × Carries R cs vs) ⊎ OneValue R vs
   unfolding place
   carried-or-one =
       let r = lowest-is (λ k. isValue (degreeOutcome R vs (unit k))) 0 (R .n - R .t) in
-      let lower : (k : ℕ) → k < place R vs → Passes R vs (unit k) = λ k h. is-value (degreeOutcome R vs (unit k)) (r .lower k (omega arith) h) in
+      let lower : (k : ℕ) → k < place R vs → Passes R vs (unit k) =
+      λ k h. is-value (degreeOutcome R vs (unit k)) (r .lower k (omega arith) h) in
       ⊎-elim
       (λ w. inl (sums-carried R m vs es C E (λ k h. unit-exactly k h .0 (lower k (omega (arith, w))))))
       (λ w.

@@ -1,6 +1,5 @@
 -- What the first checks of every operation settle of a round, and its members as nodes.
-use mathlib.Core.Path.{_≡_, _∙_}
-use mathlib.Core.Bool.{true, false, _&&_}
+use mathlib.Core.Path.{_≡_}
 use mathlib.Core.List.{List}
 use Prim.Native.Nat.{ℕ, _+_, _≤_, _<_}
 use native.Mathlib.Omega.{arith}
@@ -13,10 +12,10 @@ use Rattle.words.proofs.Lists.{All-to, up-length, up-within, up-distinct}
 use Rattle.words.proofs.Tests.{and-true}
 use Rattle.field.specs.Claims.{Nodes}
 use Rattle.group.specs.Element.{Proper}
+use Rattle.group.proofs.Table.{table-proper}
 use Rattle.sharing.specs.Round.{isRound, groupIn, roundChecks, members}
 use Rattle.sharing.specs.Carried.{Quorum}
 use Rattle.sharing.specs.declared.Round.{Round}
-use Rattle.sharing.proofs.Pending.{table-proper}
 
 pub record Ready (R : Round) : Type 0 where
   pub proper : Proper (groupIn R)

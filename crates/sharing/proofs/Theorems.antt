@@ -1,5 +1,5 @@
 -- The theorems of one dealing's commitments, as specs/Claims.antt states them.
-use mathlib.Core.Path.{_≡_, sym, ap, _∙_}
+use mathlib.Core.Path.{sym, ap, _∙_}
 use mathlib.Core.Logic.{⊎-elim}
 use native.Mathlib.Omega.{arith}
 use Rattle.words.specs.Checks.{value}

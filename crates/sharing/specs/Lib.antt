@@ -4,3 +4,4 @@ pub mod Weights
 pub mod Answer
 pub mod Carried
 pub mod Claims
+pub mod Figures

@@ -1,0 +1,43 @@
+-- The figures of specs/Figures.antt, by computing. That no polynomial carries commitments follows from one check polynomial that does not pass.
+use mathlib.Core.Path.{_≡_, refl}
+use mathlib.Core.List.{List, [], _∷_}
+use Prim.Native.Nat.{ℕ}
+use native.Mathlib.Omega.{arith}
+use Rattle.words.specs.Checks.{refused, Met}
+use Rattle.field.specs.Residue.{add, mul, sub, inv}
+use Rattle.group.specs.Power.{pow}
+use Rattle.group.specs.Table.{isGroup, groupOf}
+use Rattle.group.specs.Element.{isElement, isExponent}
+use Rattle.sharing.specs.Round.{isRound, roundChecks}
+use Rattle.sharing.specs.Weights.{gapsAt, weightAt, weightsOf, powers}
+use Rattle.sharing.specs.Answer.{degreeProduct, degreeOutcome}
+use Rattle.sharing.specs.Carried.{powersAt, Carries, Commitments, place}
+use Rattle.sharing.specs.Figures.{small, CarriedFigures, FirstPlace, exponents0710, CaughtByFirst, thirdChanged, ThirdChanged}
+use Rattle.sharing.proofs.Theorems.{carried-passes}
+
+met : Met (roundChecks small)
+unfolding isGroup isRound groupOf
+met = (refl, (refl, tt))
+
+pub carried-figures : CarriedFigures
+unfolding groupOf powersAt pow add mul
+carried-figures = (met, record { polynomial = record { size = refl; low = (omega arith, (omega arith, tt)) }; each = refl })
+
+-- a unit that is refused shows that no polynomial carries the commitments
+first-place : (vs : List ℕ) → Commitments small vs → place small vs ≡ 0 → degreeOutcome small vs (1 ∷ 0 ∷ []) ≡ refused 9 → FirstPlace vs
+unfolding groupOf
+first-place vs C f e = record { commitments = C; uncarried = uncarried; first = f; unit-refused = e }
+  where
+    uncarried : (cs : List ℕ) → Carries small cs vs → ⊥
+    uncarried cs K =
+        let p = carried-passes small met cs vs K .1 (1 ∷ 0 ∷ []) (record { size = refl; low = (omega arith, (omega arith, tt)) }) in
+        let z : _≡_ {A = ℕ} 0 1 = cc in
+        omega arith
+
+pub caught-by-first : CaughtByFirst
+unfolding place degreeOutcome degreeProduct powers weightsOf weightAt gapsAt isRound isElement isExponent isGroup groupOf pow inv add mul sub
+caught-by-first = (first-place exponents0710 (record { size = refl; elements = refl }) refl refl, refl)
+
+pub third-changed : ThirdChanged
+unfolding place degreeOutcome degreeProduct powers weightsOf weightAt gapsAt isRound isElement isExponent isGroup groupOf pow inv add mul sub
+third-changed = (first-place thirdChanged (record { size = refl; elements = refl }) refl refl, refl, refl, refl)

@@ -1,0 +1,44 @@
+-- Commitments of group 1 with n = 4 and t = 2: carried ones, and two lists that no polynomial of degree below 2 carries.
+-- They show that the claims on carried and on uncarried commitments speak of something.
+use mathlib.Core.Path.{_≡_}
+use mathlib.Core.List.{List, [], _∷_}
+use Prim.Native.Nat.{ℕ}
+use Rattle.words.specs.Lists.{map}
+use Rattle.words.specs.Checks.{refused, Met}
+use Rattle.group.specs.Power.{pow}
+use Rattle.sharing.specs.Round.{groupIn, roundChecks}
+use Rattle.sharing.specs.Answer.{degreeProduct, degreeOutcome}
+use Rattle.sharing.specs.Carried.{Carries, Commitments, Passes, place}
+use Rattle.sharing.specs.declared.Round.{Round}
+
+abbrev pub small : Round
+small = record { group = 1; n = 4; t = 2 }
+
+-- the round is one that nothing refuses, and 3 + 5 times the member number carries 9, 16, 8, 4
+abbrev pub CarriedFigures : Type 0
+CarriedFigures = Met (roundChecks small) × Carries small (3 ∷ 5 ∷ []) (9 ∷ 16 ∷ 8 ∷ 4 ∷ [])
+
+-- no polynomial carries the commitments, and the place that they fix is the first
+pub record FirstPlace (vs : List ℕ) : Type 0 where
+  pub commitments : Commitments small vs
+  pub uncarried : (cs : List ℕ) → Carries small cs vs → ⊥
+  pub first : place small vs ≡ 0
+  pub unit-refused : degreeOutcome small vs (1 ∷ 0 ∷ []) ≡ refused 9
+
+-- the commitments of the exponents 0, 7, 1, 0 are caught by the first place only: the unit of the last passes
+abbrev pub exponents0710 : List ℕ
+exponents0710 = map (pow 23 4) (0 ∷ 7 ∷ 1 ∷ 0 ∷ [])
+
+abbrev pub CaughtByFirst : Type 0
+CaughtByFirst = FirstPlace exponents0710 × Passes small exponents0710 (0 ∷ 1 ∷ [])
+
+-- with the third of 9, 16, 8, 4 changed to 9, check polynomial 1 gives 12, and 8 + the member number gives 1 and passes
+abbrev pub thirdChanged : List ℕ
+thirdChanged = 9 ∷ 16 ∷ 9 ∷ 4 ∷ []
+
+abbrev pub ThirdChanged : Type 0
+ThirdChanged =
+    FirstPlace thirdChanged
+    × (degreeProduct (groupIn small) 4 thirdChanged (1 ∷ 0 ∷ []) ≡ 12)
+    × (degreeProduct (groupIn small) 4 thirdChanged (8 ∷ 1 ∷ []) ≡ 1)
+    × Passes small thirdChanged (8 ∷ 1 ∷ [])
