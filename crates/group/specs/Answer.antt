@@ -7,12 +7,12 @@ use Rattle.group.specs.Table.{isGroup, groupOf}
 use Rattle.group.specs.Element.{isElement, isExponent}
 use Rattle.group.specs.declared.Element.{Element}
 use Rattle.group.specs.declared.Exponent.{Exponent}
-use Rattle.group.specs.declared.PowerAnswer.{PowerAnswer}
-use Rattle.group.specs.declared.PowerAnswer.the-variants.{Value, Refused}
+use Rattle.group.specs.declared.ElementAnswer.{ElementAnswer}
+use Rattle.group.specs.declared.ElementAnswer.the-variants.{Value, Refused}
 
-abbrev pub powerOutcomeOf : PowerAnswer → Outcome Element
-powerOutcomeOf (Value v) = value v
-powerOutcomeOf (Refused k) = refused k
+abbrev pub elementOutcomeOf : ElementAnswer → Outcome Element
+elementOutcomeOf (Value v) = value v
+elementOutcomeOf (Refused k) = refused k
 
 abbrev pub powerChecks : ℕ → Element → Exponent → List Check
 powerChecks k b e =

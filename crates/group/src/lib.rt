@@ -1,7 +1,7 @@
 // Groups of prime order inside the residues modulo a prime: their table, and the operation power.
 ghost use mathlib.Core.Path.{_≡_};
 ghost use Rattle.group.specs.Table.{groupOutcomeOf, groupOutcome};
-ghost use Rattle.group.specs.Answer.{powerOutcomeOf, powerOutcome};
+ghost use Rattle.group.specs.Answer.{elementOutcomeOf, powerOutcome};
 
 mod arithmetic;
 mod membership;
@@ -18,7 +18,7 @@ pub struct Exponent(pub u32);
 // A residue modulo p.
 pub struct Element(pub u32);
 
-// The modulus, the order, and two generators of which nobody knows how they stand to each other.
+// The modulus p, the order q, and the two generators g and h.
 pub struct Group {
     pub p: u32,
     pub q: u32,
@@ -31,7 +31,7 @@ pub enum GroupAnswer {
     Refused(u32),
 }
 
-pub enum PowerAnswer {
+pub enum ElementAnswer {
     Value(Element),
     Refused(u32),
 }
@@ -64,17 +64,17 @@ pub fn group_of(number: u32) -> GroupAnswer
 }
 
 // An element to the power of an exponent. Refused: 1 no group of that number; 6 the base is no element; 7 the exponent is not below q.
-pub fn power(number: u32, base: Element, exponent: Exponent) -> PowerAnswer
-    ensures { λ r. ⌜ powerOutcomeOf r ≡ powerOutcome number base exponent ⌝ }
+pub fn power(number: u32, base: Element, exponent: Exponent) -> ElementAnswer
+    ensures { λ r. ⌜ elementOutcomeOf r ≡ powerOutcome number base exponent ⌝ }
 {
     let GroupAnswer::Value(gr) = group_of(number) else {
-        return PowerAnswer::Refused(1);
+        return ElementAnswer::Refused(1);
     };
     if !is_element(gr, base) {
-        return PowerAnswer::Refused(6);
+        return ElementAnswer::Refused(6);
     }
     if !is_exponent(gr, exponent) {
-        return PowerAnswer::Refused(7);
+        return ElementAnswer::Refused(7);
     }
-    PowerAnswer::Value(base.power(gr, exponent))
+    ElementAnswer::Value(base.power(gr, exponent))
 }

@@ -2,13 +2,13 @@
 use crate::print;
 use group::Element;
 use group::Exponent;
-use group::PowerAnswer;
+use group::ElementAnswer;
 use words::Record;
 
 pub fn run(case: Record) -> bool {
     match group::power(case.w1, Element(case.w2), Exponent(case.w3)) {
-        PowerAnswer::Value(v) => print::number(b"power ", v.0),
-        PowerAnswer::Refused(k) => print::refused(b"power ", k),
+        ElementAnswer::Value(v) => print::number(b"power ", v.0),
+        ElementAnswer::Refused(k) => print::refused(b"power ", k),
     }
     true
 }
