@@ -129,6 +129,7 @@ module _ {K : Type 0} {O : Ops K} (F : Field O) where
       ∙ solve F (a ∷ x ∷ diff O (x ∷ xs) (λ _. 𝟙) ∷ diff O (x ∷ xs) e ∷ diff O xs e ∷ [])
       (λ a x o d r. a ⊠ o ⊞ one ⊠ (x ⊠ d ⊞ one ⊠ r) == a ⊠ o ⊞ (x ⊠ d ⊞ r)) refl
 
+  -- the law of degrees
   pub degree : (cs : List K) (x : K) (xs : List K) → Distinct (x ∷ xs) → length cs ≤ suc (length xs)
       → diff O (x ∷ xs) (eval O cs) ≡ getD cs (length xs) 𝟘
   degree [] x xs d h = diff-zero (x ∷ xs)

@@ -1,4 +1,4 @@
--- Laws on lists.
+-- A law on lists: two facts of every element give a third.
 use mathlib.Core.List.{List, [], _∷_}
 use Rattle.words.specs.Lists.{All}
 
