@@ -7,10 +7,9 @@ use native.Mathlib.Omega.{arith}
 use native.Mathlib.Nat.{le-of-suc-le-suc, not-suc-le-zero}
 use lib.ListN.{length, getD, List·getD-eq-default}
 use Rattle.words.specs.Lists.{All, Distinct}
-use Rattle.words.proofs.Lists.{All-to}
+use Rattle.words.proofs.Lists.{All-both, All-to}
 use Rattle.field.specs.Algebra.{Ops, Field}
 use Rattle.field.specs.Polynomial.{eval, gaps}
-use Rattle.field.proofs.ListLaws.{All-both}
 use Rattle.field.proofs.Solver.{Expr.nil, Expr.one, Expr._⊞_, Expr._⊠_, Expr.⊟_, _==_, solve, given}
 use Rattle.field.proofs.Reciprocal.{mul-ne, sub-ne, sub-inv, inv-unique, inv-one, inv-mul, inv-split}
 

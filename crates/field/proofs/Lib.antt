@@ -4,7 +4,6 @@ pub mod Primality
 pub mod Inverses
 pub mod Residues
 pub mod Loops
-pub mod ListLaws
 pub mod Ring
 pub mod Solver
 pub mod Reciprocal

@@ -6,10 +6,9 @@ use native.Mathlib.Omega.{arith}
 use native.Mathlib.Nat.{not-suc-le-zero}
 use lib.ListN.{length, getD, List·getD-eq-default}
 use Rattle.words.specs.Lists.{All, Distinct, map}
-use Rattle.words.proofs.Lists.{All-each, All-to}
+use Rattle.words.proofs.Lists.{All-both, All-each, All-to}
 use Rattle.field.specs.Algebra.{Ops, Field}
 use Rattle.field.specs.Polynomial.{eval, dot, gaps, weights, divided}
-use Rattle.field.proofs.ListLaws.{All-both}
 use Rattle.field.proofs.Solver.{Expr._⊞_, Expr._⊠_, _==_, solve}
 use Rattle.field.proofs.Reciprocal.{inv-one, inv-mul}
 use Rattle.field.proofs.Divided.{Off, over, diff, gaps-ne, inv-gaps, diff-same, degree}

@@ -19,6 +19,10 @@ module _ {A : Type 0} where
   All-to [] h a = tt
   All-to (x ∷ xs) h a = (h x (a .0), All-to xs h (a .1))
 
+  pub All-both : {P Q R : A → Type 0} (xs : List A) → ((x : A) → P x → Q x → R x) → All P xs → All Q xs → All R xs
+  All-both [] h a b = tt
+  All-both (x ∷ xs) h a b = (h x (a .0) (b .0), All-both xs h (a .1) (b .1))
+
   pub All-at : (P : A → Type 0) (xs : List A) (k : ℕ) (d : A) → k < length xs → All P xs → P (getD xs k d)
   All-at P [] k d h a = absurd (not-suc-le-zero h)
   All-at P (x ∷ xs) zero d h a = a .0
