@@ -62,3 +62,7 @@ table-proper k e =
 -- p, and with it each element, is a word
 pub table-below : (k : ℕ) → isGroup k ≡ true → groupOf k .p < 2 ^ 32
 table-below k e = each (λ G. G .p < 2 ^ 32) (lit< tt) (lit< tt) (lit< tt) k
+
+-- q, and with it each exponent, is a word
+pub order-below : (k : ℕ) → isGroup k ≡ true → groupOf k .q < 2 ^ 32
+order-below k e = each (λ G. G .q < 2 ^ 32) (lit< tt) (lit< tt) (lit< tt) k
