@@ -1,19 +1,18 @@
 -- Proofs of equal logarithms: accepted exactly if they hold, and complete. The response is made so that it gives back the announcement of the nonce.
-use mathlib.Core.Path.{_≡_, refl, sym, ap, _∙_}
-use mathlib.Core.Bool.{true, _&&_}
+use mathlib.Core.Path.{_≡_, sym, ap, _∙_}
+use mathlib.Core.Bool.{true}
 use mathlib.Core.List.{List, [], _∷_}
 use Prim.Native.Nat.{ℕ, _<_}
 use native.Mathlib.Omega.{arith}
 use borrow.Author.Tests.{eqb-true, eq-eqb}
 use lib.Dec.{eqb}
-use Rattle.words.specs.Lists.{all}
 use Rattle.words.specs.Checks.{value}
 use Rattle.words.proofs.Tests.{and-true, true-and, all-true, true-all}
 use Rattle.words.proofs.Checks.{value-exactly}
 use Rattle.field.specs.Residue.{add, mul, neg, sub}
 use Rattle.field.proofs.Modular.{add-comm, add-assoc, add-neg, mul-comm, mul-one, sub-add-neg, sub-below}
 use Rattle.group.specs.Power.{pow}
-use Rattle.group.specs.Table.{isGroup, groupOf}
+use Rattle.group.specs.Table.{groupOf}
 use Rattle.group.specs.Element.{isElement, isExponent, Proper}
 use Rattle.group.specs.declared.Group.{Group}
 use Rattle.group.proofs.Powers.{pow-below, pow-none}

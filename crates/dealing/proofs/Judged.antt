@@ -1,21 +1,20 @@
 -- A judged dealing: accepted exactly if its figures are proper and every equation holds, and where one fails refused by its number.
 -- What is accepted has commitments for which the judge's own check polynomial passes.
 use mathlib.Core.Path.{_≡_, refl, _∙_}
-use mathlib.Core.Bool.{Bool, true, false, _&&_}
+use mathlib.Core.Bool.{Bool, true, _&&_}
 use mathlib.Core.List.{List}
 use mathlib.Core.Logic.{inl, inr}
-use Prim.Native.Nat.{ℕ, _≤_}
+use Prim.Native.Nat.{ℕ}
 use borrow.Author.Tests.{eqb-true, eq-eqb, ne-eqb}
 use lib.ListN.{length, take, drop}
 use lib.Dec.{eqb}
-use Rattle.words.specs.Checks.{Check, value, refused, outcome, Met}
+use Rattle.words.specs.Checks.{Check, value, outcome, Met}
 use Rattle.words.proofs.Lists.{map-length, map-all, up-length}
 use Rattle.words.proofs.Tests.{and-true, true-and, all-true, true-all}
 use Rattle.words.proofs.Checks.{outcome-rest, value-exactly, refused-exactly}
 use Rattle.group.specs.Element.{isElement, isExponent}
-use Rattle.group.specs.declared.Group.{Group}
 use Rattle.group.proofs.Elements.{exponent-true, true-exponent}
-use Rattle.sharing.specs.Round.{groupIn, isMember, members}
+use Rattle.sharing.specs.Round.{groupIn, members}
 use Rattle.sharing.specs.Carried.{Commitments}
 use Rattle.sharing.specs.declared.Round.{Round}
 use Rattle.sharing.proofs.Degree.{product-passes}

@@ -5,5 +5,6 @@ pub mod Challenges
 pub mod Equal
 pub mod Judged
 pub mod Written
+pub mod Keys
 pub mod Shares
 pub mod Recovered

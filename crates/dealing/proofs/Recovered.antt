@@ -1,12 +1,12 @@
 -- From a written dealing to its secret: the share that a member writes from his line is accepted and true, and enough of them recover h^s.
 use mathlib.Core.Path.{_≡_, refl, ap, _∙_}
-use mathlib.Core.Bool.{true, _&&_}
-use mathlib.Core.List.{List, [], _∷_}
+use mathlib.Core.List.{List}
 use Prim.Native.Nat.{ℕ, _≤_, _<_}
 use borrow.Author.Tests.{le-leb, lt-ltb}
 use lib.Dec.{leb}
 use Rattle.words.specs.Lists.{All, map}
 use Rattle.words.specs.Checks.{value}
+use Rattle.words.proofs.Lists.{All-both, map-same}
 use Rattle.words.proofs.Tests.{true-and}
 use Rattle.words.proofs.Checks.{value-exactly}
 use Rattle.field.specs.Polynomial.{valueAt}
@@ -21,10 +21,11 @@ use Rattle.dealing.specs.Dealing.{dealtY, writtenDealing, YIn, vsIn}
 use Rattle.dealing.specs.Share.{keyOf, shareOf, writtenShare, writeShareChecks, writeShareOutcome, judgeShareOutcome}
 use Rattle.dealing.specs.Claims.{DealtShareAccepted, WrittenRecovered}
 use Rattle.dealing.proofs.Members.{member-exactly}
-use Rattle.dealing.proofs.Written.{Writable, writable, Y-is, line-proper, carries}
-use Rattle.dealing.proofs.Shares.{share-complete, share-true}
+use Rattle.dealing.proofs.Written.{WritableDealing, writable, Y-is, line-proper, carries}
+use Rattle.dealing.proofs.Keys.{share-true}
+use Rattle.dealing.proofs.Shares.{share-complete}
 
-module _ (R : Round) (d : ℕ) (ys cs ws : List ℕ) (W : Writable R d ys cs) where
+module _ (R : Round) (d : ℕ) (ys cs ws : List ℕ) (W : WritableDealing R d ys cs) where
   abbrev Y : ℕ → ℕ
   Y i = YIn (writtenDealing R d ys cs ws) i
 
@@ -58,9 +59,9 @@ module _ (R : Round) (d : ℕ) (ys cs ws : List ℕ) (W : Writable R d ys cs) wh
       → All (λ i. (1 ≤ x i) × (x i < groupIn R .q) × (entry ys i ≡ keyOf (groupIn R) (x i))) ms
       → TrueShares R cs ms (map (λ i. shareOf (groupIn R) (Y i) (x i)) ms)
   unfolding powersAt
-  shares-true x [] m k = refl
-  shares-true x (i ∷ ms) m k =
-      λ j. share-is i (m .0 .0) (m .0 .1) (x i) (k .0 .0) (k .0 .1) (k .0 .2) j ∷ shares-true x ms (m .1) (k .1) j
+  shares-true x ms m k =
+      map-same (λ i. shareOf (groupIn R) (Y i) (x i)) (λ i. pow (groupIn R .p) (groupIn R .h .0) (valueAt (groupIn R .q) cs i)) ms
+      (All-both ms (λ i s t. share-is i (s .0) (s .1) (x i) (t .0) (t .1) (t .2)) m k)
 
 pub dealt-share-accepted : DealtShareAccepted
 dealt-share-accepted R d ys cs ws e i x w h l some low v k =

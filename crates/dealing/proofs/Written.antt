@@ -1,7 +1,7 @@
 -- A written dealing: it reads back line by line, its polynomial carries it, and it is accepted with the same keys.
 -- Each line's response gives back the announcements of its nonce, so the challenge is recomputed over the same message.
-use mathlib.Core.Path.{_≡_, refl, sym, ap, _∙_, subst}
-use mathlib.Core.Bool.{true, _&&_}
+use mathlib.Core.Path.{_≡_, sym, ap, _∙_, subst}
+use mathlib.Core.Bool.{true}
 use mathlib.Core.List.{List, [], _∷_}
 use Prim.Native.Nat.{ℕ, _*_, _^_, _≤_, _<_}
 use native.Mathlib.Omega.{arith}
@@ -9,7 +9,7 @@ use borrow.Author.Tests.{eqb-true}
 use lib.ListN.{length}
 use lib.Dec.{eqb}
 use Rattle.words.specs.Lists.{All, Below, all}
-use Rattle.words.specs.Checks.{value, Met, lentAfter}
+use Rattle.words.specs.Checks.{value, Met}
 use Rattle.words.specs.Bytes.{recordWords}
 use Rattle.words.specs.declared.Record.{Record}
 use Rattle.words.proofs.Lists.{All-to, map-same, up-length}
@@ -21,17 +21,16 @@ use Rattle.group.specs.Element.{isElement, isExponent, Proper}
 use Rattle.group.specs.declared.Group.{Group}
 use Rattle.group.proofs.Elements.{exponent-true, generator-element, power-element}
 use Rattle.sharing.specs.Round.{groupIn, roundChecks, members}
-use Rattle.sharing.specs.Answer.{degreeProduct}
 use Rattle.sharing.specs.Carried.{powersAt, Polynomial, Carries}
 use Rattle.sharing.specs.declared.Round.{Round}
 use Rattle.sharing.proofs.Rounds.{ready}
 use Rattle.sharing.proofs.Degree.{passes-product}
 use Rattle.sharing.proofs.Theorems.{carried-passes}
-use Rattle.dealing.specs.Records.{isLineRecord, entry, recordOf, recordsBytes, isKey}
+use Rattle.dealing.specs.Records.{isLineRecord, entry, recordOf, isKey}
 use Rattle.dealing.specs.Message.{challengeOf, checkPolynomial}
 use Rattle.dealing.specs.Equality.{announced}
 use Rattle.dealing.specs.Dealing.{dealtV, dealtY, dealtC, dealtR, dealtLine, writtenDealing, writeDealingChecks, writeDealingOutcome, judgeDealingOutcome, vIn, YIn, rIn, cIn, vsIn, recomputed}
-use Rattle.dealing.specs.Claims.{Line, AcceptedDealing, DealingComplete, WrittenCarried, LentDealing, LentDealingKept}
+use Rattle.dealing.specs.Claims.{Line, DegreeEquation, AcceptedDealing, DealingComplete, WrittenCarried, LentDealing, LentDealingKept}
 use Rattle.dealing.proofs.Members.{each-members, member-exactly, key-element, entry-all}
 use Rattle.dealing.proofs.Posted.{member-word, element-word, exponent-word, records-length, record-back}
 use Rattle.dealing.proofs.Challenges.{challenge-low, check-polynomial, message-same}
@@ -39,14 +38,14 @@ use Rattle.dealing.proofs.Equal.{response-low, announced-back}
 use Rattle.dealing.proofs.Judged.{accepts-dealing}
 
 -- what the writer asks of round, dealer, keys and polynomial; of the nonces nothing is used
-pub record Writable (R : Round) (d : ℕ) (ys cs : List ℕ) : Type 0 where
+pub record WritableDealing (R : Round) (d : ℕ) (ys cs : List ℕ) : Type 0 where
   pub round : Met (roundChecks R)
   pub dealer : (1 ≤ d) × (d ≤ R .n)
   pub keys-size : length ys ≡ R .n
   pub keys : All (λ y. isKey (groupIn R) y ≡ true) ys
   pub polynomial : Polynomial R cs
 
-pub writable : (R : Round) (d : ℕ) (ys cs ws : List ℕ) (room : ℕ) → writeDealingOutcome R d ys cs ws room ≡ value tt → Writable R d ys cs
+pub writable : (R : Round) (d : ℕ) (ys cs ws : List ℕ) (room : ℕ) → writeDealingOutcome R d ys cs ws room ≡ value tt → WritableDealing R d ys cs
 unfolding writeDealingOutcome
 writable R d ys cs ws room e =
     let G : Group = groupIn R in
@@ -64,7 +63,10 @@ writable R d ys cs ws room e =
       };
     }
 
-module _ (R : Round) (d : ℕ) (ys cs ws : List ℕ) (W : Writable R d ys cs) where
+module _ (R : Round) (d : ℕ) (ys cs ws : List ℕ) (W : WritableDealing R d ys cs) where
+  abbrev G : Group
+  G = groupIn R
+
   abbrev bytes : List ℕ
   bytes = writtenDealing R d ys cs ws
 
@@ -72,32 +74,32 @@ module _ (R : Round) (d : ℕ) (ys cs ws : List ℕ) (W : Writable R d ys cs) wh
   c = dealtC R d ys cs ws
 
   abbrev line : ℕ → Record
-  line = dealtLine (groupIn R) d ys cs ws c
+  line = dealtLine G d ys cs ws c
 
-  proper : Proper (groupIn R)
-  proper = ready R (W .round) .proper
+  P : Proper G
+  P = ready R (W .round) .proper
 
-  -- ---- proper figures
-  g-element : isElement (groupIn R) (groupIn R .g .0) ≡ true
-  g-element = generator-element (groupIn R) proper (groupIn R .g .0) (proper .g-generates)
+  -- ---- P figures
+  g-element : isElement G (G .g .0) ≡ true
+  g-element = generator-element G P (G .g .0) (P .g-generates)
 
-  y-element : (i : ℕ) → 1 ≤ i → i ≤ R .n → isElement (groupIn R) (entry ys i) ≡ true
+  y-element : (i : ℕ) → 1 ≤ i → i ≤ R .n → isElement G (entry ys i) ≡ true
   y-element i h l =
-      key-element (groupIn R) (entry ys i) (entry-all (λ y. isKey (groupIn R) y ≡ true) ys (W .keys) i h (omega (arith, W .keys-size)))
+      key-element G (entry ys i) (entry-all (λ y. isKey G y ≡ true) ys (W .keys) i h (omega (arith, W .keys-size)))
 
-  v-element : (i : ℕ) → isElement (groupIn R) (dealtV (groupIn R) cs i) ≡ true
+  v-element : (i : ℕ) → isElement G (dealtV G cs i) ≡ true
   unfolding dealtV
-  v-element i = power-element (groupIn R) proper (groupIn R .g .0) (valueAt (groupIn R .q) cs i) g-element
+  v-element i = power-element G P (G .g .0) (valueAt (G .q) cs i) g-element
 
-  Y-element : (i : ℕ) → 1 ≤ i → i ≤ R .n → isElement (groupIn R) (dealtY (groupIn R) ys cs i) ≡ true
+  Y-element : (i : ℕ) → 1 ≤ i → i ≤ R .n → isElement G (dealtY G ys cs i) ≡ true
   unfolding dealtY
-  Y-element i h l = power-element (groupIn R) proper (entry ys i) (valueAt (groupIn R .q) cs i) (y-element i h l)
+  Y-element i h l = power-element G P (entry ys i) (valueAt (G .q) cs i) (y-element i h l)
 
-  r-low : (i : ℕ) → dealtR (groupIn R) cs ws c i < groupIn R .q
+  r-low : (i : ℕ) → dealtR G cs ws c i < G .q
   unfolding dealtR
-  r-low i = response-low (groupIn R) proper (entry ws i) c (valueAt (groupIn R .q) cs i)
+  r-low i = response-low G P (entry ws i) c (valueAt (G .q) cs i)
 
-  c-low : c < groupIn R .q
+  c-low : c < G .q
   unfolding dealtC
   c-low = challenge-low R (W .round) _
 
@@ -121,15 +123,15 @@ module _ (R : Round) (d : ℕ) (ys cs ws : List ℕ) (W : Writable R d ys cs) wh
     unfolding writtenDealing
     line-is = record-back line (R .n) i h l (line-words i h l)
 
-    v-is : vIn bytes i ≡ dealtV (groupIn R) cs i
+    v-is : vIn bytes i ≡ dealtV G cs i
     unfolding vIn dealtLine
     v-is = ap (λ (r : Record). r .w3) line-is
 
-    pub Y-is : YIn bytes i ≡ dealtY (groupIn R) ys cs i
+    pub Y-is : YIn bytes i ≡ dealtY G ys cs i
     unfolding YIn dealtLine
     Y-is = ap (λ (r : Record). r .w4) line-is
 
-    r-is : rIn bytes i ≡ dealtR (groupIn R) cs ws c i
+    r-is : rIn bytes i ≡ dealtR G cs ws c i
     unfolding rIn dealtLine
     r-is = ap (λ (r : Record). r .w5) line-is
 
@@ -144,24 +146,24 @@ module _ (R : Round) (d : ℕ) (ys cs ws : List ℕ) (W : Writable R d ys cs) wh
           kind = ap isLineRecord line-is;
           dealer = ap (λ (r : Record). r .w1) line-is;
           member = ap (λ (r : Record). r .w2) line-is;
-          v-element = ap (isElement (groupIn R)) v-is ∙ v-element i;
-          Y-element = ap (isElement (groupIn R)) Y-is ∙ Y-element i h l;
-          r-low = subst (λ (x : ℕ). x < groupIn R .q) (sym r-is) (r-low i);
-          c-low = subst (λ (x : ℕ). x < groupIn R .q) (sym c-is) c-low;
+          v-element = ap (isElement G) v-is ∙ v-element i;
+          Y-element = ap (isElement G) Y-is ∙ Y-element i h l;
+          r-low = subst (λ (x : ℕ). x < G .q) (sym r-is) (r-low i);
+          c-low = subst (λ (x : ℕ). x < G .q) (sym c-is) c-low;
         }
 
     -- the announcements are those of the nonce
-    first-is : announced (groupIn R) (groupIn R .g .0) (vIn bytes i) (cIn bytes i) (rIn bytes i) ≡ pow (groupIn R .p) (groupIn R .g .0) (entry ws i)
+    first-is : announced G (G .g .0) (vIn bytes i) (cIn bytes i) (rIn bytes i) ≡ pow (G .p) (G .g .0) (entry ws i)
     unfolding dealtV dealtR
     first-is =
-        (λ j. announced (groupIn R) (groupIn R .g .0) (v-is j) (c-is j) (r-is j))
-        ∙ announced-back (groupIn R) proper (groupIn R .g .0) (entry ws i) c (valueAt (groupIn R .q) cs i) g-element
+        (λ j. announced G (G .g .0) (v-is j) (c-is j) (r-is j))
+        ∙ announced-back G P (G .g .0) (entry ws i) c (valueAt (G .q) cs i) g-element
 
-    second-is : announced (groupIn R) (entry ys i) (YIn bytes i) (cIn bytes i) (rIn bytes i) ≡ pow (groupIn R .p) (entry ys i) (entry ws i)
+    second-is : announced G (entry ys i) (YIn bytes i) (cIn bytes i) (rIn bytes i) ≡ pow (G .p) (entry ys i) (entry ws i)
     unfolding dealtY dealtR
     second-is =
-        (λ j. announced (groupIn R) (entry ys i) (Y-is j) (c-is j) (r-is j))
-        ∙ announced-back (groupIn R) proper (entry ys i) (entry ws i) c (valueAt (groupIn R .q) cs i) (y-element i h l)
+        (λ j. announced G (entry ys i) (Y-is j) (c-is j) (r-is j))
+        ∙ announced-back G P (entry ys i) (entry ws i) c (valueAt (G .q) cs i) (y-element i h l)
 
   recomputed-is : recomputed R d ys bytes ≡ c
   unfolding recomputed dealtC
@@ -176,11 +178,11 @@ module _ (R : Round) (d : ℕ) (ys cs ws : List ℕ) (W : Writable R d ys cs) wh
       record {
         polynomial = W .polynomial;
         each =
-            map-same (vIn bytes) (dealtV (groupIn R) cs) (members (R .n))
-            (each-members (λ i. vIn bytes i ≡ dealtV (groupIn R) cs i) (R .n) v-is);
+            map-same (vIn bytes) (dealtV G cs) (members (R .n))
+            (each-members (λ i. vIn bytes i ≡ dealtV G cs i) (R .n) v-is);
       }
 
-  degree : degreeProduct (groupIn R) (R .n) (vsIn (R .n) bytes) (checkPolynomial R d (vIn bytes) (YIn bytes)) ≡ 1
+  degree : DegreeEquation R d bytes
   degree =
       let m = W .round in
       let p = carried-passes R m cs (vsIn (R .n) bytes) carries in

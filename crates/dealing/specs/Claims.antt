@@ -82,11 +82,18 @@ pub record PostedDealing (R : Round) (d : ℕ) (ys b : List ℕ) : Type 0 where
   pub size : length b ≡ 32 * R .n
   pub lines : (i : ℕ) → 1 ≤ i → i ≤ R .n → Line R d b i
 
--- and each equation between them: the degree check's, and in every line that its challenge is the one that all lines' announcements give
+-- the equation of the degree check, over the judge's own check polynomial
+abbrev pub DegreeEquation : Round → ℕ → List ℕ → Type 0
+DegreeEquation R d b = degreeProduct (groupIn R) (R .n) (vsIn (R .n) b) (checkPolynomial R d (vIn b) (YIn b)) ≡ 1
+
+-- the equation of member i's line: its challenge is the one that the announcements of all lines give
+abbrev pub LineEquation : Round → ℕ → List ℕ → List ℕ → ℕ → Type 0
+LineEquation R d ys b i = cIn b i ≡ recomputed R d ys b
+
 pub record AcceptedDealing (R : Round) (d : ℕ) (ys b : List ℕ) : Type 0 where
   pub posted : PostedDealing R d ys b
-  pub degree : degreeProduct (groupIn R) (R .n) (vsIn (R .n) b) (checkPolynomial R d (vIn b) (YIn b)) ≡ 1
-  pub challenge : (i : ℕ) → 1 ≤ i → i ≤ R .n → cIn b i ≡ recomputed R d ys b
+  pub degree : DegreeEquation R d b
+  pub challenge : (i : ℕ) → 1 ≤ i → i ≤ R .n → LineEquation R d ys b i
 
 -- a dealing is accepted exactly if every equation between posted figures holds
 abbrev pub DealingExactly : Type 0
@@ -94,10 +101,8 @@ DealingExactly = (R : Round) (d : ℕ) (ys b : List ℕ) → (judgeDealingOutcom
 
 -- where an equation fails, the number says which: 9 the degree check's, and else 10 a line's
 pub record EquationRefused (R : Round) (d : ℕ) (ys b : List ℕ) : Type 0 where
-  pub nine : (degreeProduct (groupIn R) (R .n) (vsIn (R .n) b) (checkPolynomial R d (vIn b) (YIn b)) ≡ 1 → ⊥)
-      → judgeDealingOutcome R d ys b ≡ refused 9
-  pub ten : degreeProduct (groupIn R) (R .n) (vsIn (R .n) b) (checkPolynomial R d (vIn b) (YIn b)) ≡ 1
-      → (i : ℕ) → 1 ≤ i → i ≤ R .n → (cIn b i ≡ recomputed R d ys b → ⊥) → judgeDealingOutcome R d ys b ≡ refused 10
+  pub nine : (DegreeEquation R d b → ⊥) → judgeDealingOutcome R d ys b ≡ refused 9
+  pub ten : DegreeEquation R d b → (i : ℕ) → 1 ≤ i → i ≤ R .n → (LineEquation R d ys b i → ⊥) → judgeDealingOutcome R d ys b ≡ refused 10
 
 abbrev pub DealingRefused : Type 0
 DealingRefused = (R : Round) (d : ℕ) (ys b : List ℕ) → PostedDealing R d ys b → EquationRefused R d ys b
@@ -121,7 +126,7 @@ LentDealing =
     (R : Round) (d : ℕ) (ys cs ws out : List ℕ) → writeDealingOutcome R d ys cs ws (length out) ≡ value tt
     → judgeDealingOutcome R d ys (lentAfter (writeDealingChecks R d ys cs ws (length out)) (writtenDealing R d ys cs ws) out) ≡ value tt
 
--- and are as they were where a number is
+-- and stay as they were where a number is refused
 abbrev pub LentDealingKept : Type 0
 LentDealingKept =
     (R : Round) (d : ℕ) (ys cs ws out : List ℕ) (k : ℕ) → writeDealingOutcome R d ys cs ws (length out) ≡ refused k
@@ -162,7 +167,7 @@ LentShare =
     → judgeShareOutcome R d i (keyOf (groupIn R) x) Y (lentAfter (writeShareChecks R d i Y x w (length out)) (writtenShare R d i Y x w) out)
     ≡ value (record { 0 = shareOf (groupIn R) Y x })
 
--- and are as they were where a number is
+-- and stay as they were where a number is refused
 abbrev pub LentShareKept : Type 0
 LentShareKept =
     (R : Round) (d i Y x w : ℕ) (out : List ℕ) (k : ℕ) → writeShareOutcome R d i Y x w (length out) ≡ refused k
