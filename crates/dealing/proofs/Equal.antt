@@ -73,13 +73,10 @@ module _ (k : ℕ) (E : Equality) where
   unfolding equalityOutcome
   holds-accepted H =
       let G : Group = groupOf k in
-      value-exactly Unit (equalityChecks k E) tt .1 (
-        H .group,
-        (true-all (isElement G) elements (H .elements), (
-          true-all (isExponent G) exponents (true-exponent G (E .c .0) (H .c-low), (true-exponent G (E .r .0) (H .r-low), tt)),
-          (true-and _ _ (eq-eqb _ _ (H .first)) (eq-eqb _ _ (H .second)), tt),
-        )),
-      )
+      let six = true-all (isElement G) elements (H .elements) in
+      let seven = true-all (isExponent G) exponents (true-exponent G (E .c .0) (H .c-low), (true-exponent G (E .r .0) (H .r-low), tt)) in
+      let ten = true-and _ _ (eq-eqb _ _ (H .first)) (eq-eqb _ _ (H .second)) in
+      value-exactly Unit (equalityChecks k E) tt .1 (H .group, (six, (seven, (ten, tt))))
 
 pub equality-exactly : EqualityExactly
 equality-exactly k E = (accepted-holds k E, holds-accepted k E)

@@ -94,19 +94,14 @@ module _ (R : Round) (d : ℕ) (ys b : List ℕ) where
   -- ---- figures that are proper one by one meet the first eight checks, so the last two decide
   module _ (P : PostedDealing R d ys b) where
     first-met : Met (take 8 (judgeDealingChecks R d ys b))
-    first-met = (
-      P .round .0,
-      (P .round .1 .0, (
-        member-exactly (R .n) d .1 (P .dealer),
-        (true-and (eqb (length ys) (R .n)) _ (eq-eqb (length ys) (R .n) (P .keys-size)) (eq-eqb (length b) _ (P .size)), (
-          true-all (isKey (groupIn R)) ys (P .keys),
-          (members-exactly (isLineOf d b) (R .n) .1 (λ i h l. line-form i (P .lines i h l)), (
-            members-exactly elementsAt (R .n) .1 (λ i h l. line-elements i (P .lines i h l)),
-            (members-exactly exponentsAt (R .n) .1 (λ i h l. line-exponents i (P .lines i h l)), tt),
-          )),
-        )),
-      )),
-    )
+    first-met =
+        let eight = member-exactly (R .n) d .1 (P .dealer) in
+        let three = true-and (eqb (length ys) (R .n)) _ (eq-eqb (length ys) (R .n) (P .keys-size)) (eq-eqb (length b) _ (P .size)) in
+        let keys = true-all (isKey (groupIn R)) ys (P .keys) in
+        let four = members-exactly (isLineOf d b) (R .n) .1 (λ i h l. line-form i (P .lines i h l)) in
+        let six = members-exactly elementsAt (R .n) .1 (λ i h l. line-elements i (P .lines i h l)) in
+        let seven = members-exactly exponentsAt (R .n) .1 (λ i h l. line-exponents i (P .lines i h l)) in
+        (P .round .0, (P .round .1 .0, (eight, (three, (keys, (four, (six, (seven, tt))))))))
 
     abbrev last : List Check
     last = drop 8 (judgeDealingChecks R d ys b)

@@ -40,20 +40,11 @@ module _ (R : Round) (d : ℕ) (ys cs ws : List ℕ) (W : WritableDealing R d ys
     share-written : (w : ℕ) → w < groupIn R .q → writeShareOutcome R d i (Y i) x w 32 ≡ value tt
     unfolding writeShareOutcome isSecretKey
     share-written w v =
-        value-exactly Unit (writeShareChecks R d i (Y i) x w 32) tt .1 (
-          W .round .0,
-          (W .round .1 .0, (
-            true-and (isMember (R .n) d) _ (member-exactly (R .n) d .1 (W .dealer)) (member-exactly (R .n) i .1 (h, l)),
-            (refl, (
-              line-proper R d ys cs ws W i h l .Y-element,
-              (
-                true-and (isSecretKey (groupIn R) x) _
-                (true-and (leb 1 x) _ (le-leb 1 x some) (lt-ltb x (groupIn R .q) low)) (true-exponent (groupIn R) w v),
-                tt,
-              ),
-            )),
-          )),
-        )
+        let eight = true-and (isMember (R .n) d) _ (member-exactly (R .n) d .1 (W .dealer)) (member-exactly (R .n) i .1 (h, l)) in
+        let six = line-proper R d ys cs ws W i h l .Y-element in
+        let secret = true-and (leb 1 x) _ (le-leb 1 x some) (lt-ltb x (groupIn R .q) low) in
+        let seven = true-and (isSecretKey (groupIn R) x) _ secret (true-exponent (groupIn R) w v) in
+        value-exactly Unit (writeShareChecks R d i (Y i) x w 32) tt .1 (W .round .0, (W .round .1 .0, (eight, (refl, (six, (seven, tt))))))
 
   shares-true : (x : ℕ → ℕ) (ms : List ℕ) → All (λ i. (1 ≤ i) × (i ≤ R .n)) ms
       → All (λ i. (1 ≤ x i) × (x i < groupIn R .q) × (entry ys i ≡ keyOf (groupIn R) (x i))) ms
@@ -67,13 +58,12 @@ pub dealt-share-accepted : DealtShareAccepted
 dealt-share-accepted R d ys cs ws e i x w h l some low v k =
     let W = writable R d ys cs ws _ e in
     let Y : ℕ = YIn (writtenDealing R d ys cs ws) i in
-    let p = share-written R d ys cs ws W i h l x some low k w v in
-    (
-      p,
-      ap (λ (y : ℕ). judgeShareOutcome R d i y Y (writtenShare R d i Y x w)) k
-      ∙ share-complete R d i Y x w p
-      ∙ ap (λ (s : ℕ). value (record { 0 = s })) (share-is R d ys cs ws W i h l x some low k),
-    )
+    let written = share-written R d ys cs ws W i h l x some low k w v in
+    let judged =
+    ap (λ (y : ℕ). judgeShareOutcome R d i y Y (writtenShare R d i Y x w)) k
+    ∙ share-complete R d i Y x w written
+    ∙ ap (λ (s : ℕ). value (record { 0 = s })) (share-is R d ys cs ws W i h l x some low k) in
+    (written, judged)
 
 pub written-recovered : WrittenRecovered
 written-recovered R d ys cs ws e x ms Q k =

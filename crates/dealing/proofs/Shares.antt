@@ -70,23 +70,15 @@ module _ (R : Round) (d i y Y : ℕ) (b : List ℕ) where
   unfolding judgeShareOutcome
   accepts-share A =
       let G : Group = groupIn R in
-      value-exactly Element (judgeShareChecks R d i y Y b) (record { 0 = r .w3 }) .1 (
-        A .round .0,
-        (A .round .1 .0, (
-          true-and (isMember (R .n) d) _ (member-exactly (R .n) d .1 (A .dealer)) (member-exactly (R .n) i .1 (A .member)),
-          (eq-eqb (length b) 32 (A .size), (
-            true-and (isKey G y) _ (A .key) (A .Y-element),
-            (
-              true-and (isShareRecord r) _ (A .kind)
-              (true-and (eqb (r .w1) d) _ (eq-eqb (r .w1) d (A .dealer-word)) (eq-eqb (r .w2) i (A .member-word))),
-              (A .S-element, (
-                true-and (isExponent G (r .w4)) _ (true-exponent G (r .w4) (A .c-low)) (true-exponent G (r .w5) (A .r-low)),
-                (eq-eqb (r .w4) _ (A .challenge), tt),
-              )),
-            ),
-          )),
-        )),
-      )
+      let eight = true-and (isMember (R .n) d) _ (member-exactly (R .n) d .1 (A .dealer)) (member-exactly (R .n) i .1 (A .member)) in
+      let three = eq-eqb (length b) 32 (A .size) in
+      let six = true-and (isKey G y) _ (A .key) (A .Y-element) in
+      let posted = true-and (eqb (r .w1) d) _ (eq-eqb (r .w1) d (A .dealer-word)) (eq-eqb (r .w2) i (A .member-word)) in
+      let four = true-and (isShareRecord r) _ (A .kind) posted in
+      let seven = true-and (isExponent G (r .w4)) _ (true-exponent G (r .w4) (A .c-low)) (true-exponent G (r .w5) (A .r-low)) in
+      let ten = eq-eqb (r .w4) _ (A .challenge) in
+      value-exactly Element (judgeShareChecks R d i y Y b) (record { 0 = r .w3 }) .1
+      (A .round .0, (A .round .1 .0, (eight, (three, (six, (four, (A .S-element, (seven, (ten, tt)))))))))
 
 pub share-exactly : ShareExactly
 share-exactly R d i y Y b = (share-accepted R d i y Y b, accepts-share R d i y Y b)
@@ -180,16 +172,15 @@ module _ (R : Round) (d i Y x w : ℕ) (W : WritableShare R d i Y x) where
   words : Below (2 ^ 32) (recordWords written)
   unfolding shareRecord
   words =
-      let m = W .round in (
-        omega arith,
-        (member-word R m d (W .dealer .1), (
-          member-word R m i (W .member .1),
-          (element-word R m S S-element, (
-            exponent-word R m c c-low,
-            (exponent-word R m _ (response-low G P w c x), (omega arith, (omega arith, tt))),
-          )),
-        )),
-      )
+      let m = W .round in
+      let w0 : 4 < 2 ^ 32 = omega arith in
+      let w1 = member-word R m d (W .dealer .1) in
+      let w2 = member-word R m i (W .member .1) in
+      let w3 = element-word R m S S-element in
+      let w4 = exponent-word R m c c-low in
+      let w5 = exponent-word R m (response G w c x) (response-low G P w c x) in
+      let spare : 0 < 2 ^ 32 = omega arith in
+      (w0, (w1, (w2, (w3, (w4, (w5, (spare, (spare, tt))))))))
 
   record-is : recordIn (writtenShare R d i Y x w) ≡ written
   unfolding writtenShare

@@ -107,16 +107,16 @@ module _ (R : Round) (d : ℕ) (ys cs ws : List ℕ) (W : WritableDealing R d ys
   line-words : (i : ℕ) → 1 ≤ i → i ≤ R .n → Below (2 ^ 32) (recordWords (line i))
   unfolding dealtLine
   line-words i h l =
-      let m = W .round in (
-        omega arith,
-        (member-word R m d (W .dealer .1), (
-          member-word R m i l,
-          (element-word R m _ (v-element i), (
-            element-word R m _ (Y-element i h l),
-            (exponent-word R m _ (r-low i), (exponent-word R m c c-low, (omega arith, tt))),
-          )),
-        )),
-      )
+      let m = W .round in
+      let w0 : 2 < 2 ^ 32 = omega arith in
+      let w1 = member-word R m d (W .dealer .1) in
+      let w2 = member-word R m i l in
+      let w3 = element-word R m (dealtV G cs i) (v-element i) in
+      let w4 = element-word R m (dealtY G ys cs i) (Y-element i h l) in
+      let w5 = exponent-word R m (dealtR G cs ws c i) (r-low i) in
+      let w6 = exponent-word R m c c-low in
+      let spare : 0 < 2 ^ 32 = omega arith in
+      (w0, (w1, (w2, (w3, (w4, (w5, (w6, (spare, tt))))))))
 
   module _ (i : ℕ) (h : 1 ≤ i) (l : i ≤ R .n) where
     line-is : recordOf bytes i ≡ line i
