@@ -62,10 +62,8 @@ pub record VerdictRule (J : Judges) (R : Round) (b : List ℕ) (d : ℕ) : Type 
   pub opened-only : (v : Element) → verdictOn J R b d ≡ Accepted (Opened v) → RightlyOpened R b d
   -- recovered where no opening is right and t or more shares are accepted, and only there; the t lowest members serve
   pub recovers : isAccepted J R b d ≡ true → (RightlyOpened R b d → ⊥) → R .t ≤ length (sharesBy J R b d)
-      → verdictOn J R b d ≡ Accepted (Recovered (record {
-        0 =
-            recovered (groupIn R) (map (λ i. recordAt b i .w2) (take (R .t) (sharesBy J R b d))) (map (λ i. recordAt b i .w3) (take (R .t) (sharesBy J R b d)));
-      }))
+      → verdictOn J R b d ≡ Accepted (Recovered (record { 0 =
+          recovered (groupIn R) (map (λ i. recordAt b i .w2) (take (R .t) (sharesBy J R b d))) (map (λ i. recordAt b i .w3) (take (R .t) (sharesBy J R b d))) }))
   pub recovers-only : (v : Element) → verdictOn J R b d ≡ Accepted (Recovered v) → (RightlyOpened R b d → ⊥) × (R .t ≤ length (sharesBy J R b d))
   -- stuck exactly where no opening is right and fewer than t shares are accepted
   pub stuck : isAccepted J R b d ≡ true

@@ -1,6 +1,5 @@
 // Dealings and opened shares: the hashed messages, proofs of equal logarithms, writers and judges.
-use group::Element;
-use group::Exponent;
+use group::{Element, Exponent};
 
 // A proof with lent figures that x1 is b1 and x2 is b2 to one exponent: the announcements a1 and a2, the challenge c, the response r.
 pub struct Equality {
