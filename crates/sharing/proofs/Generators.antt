@@ -1,4 +1,5 @@
--- Products of powers of a generator b, by their exponents: the power of each sum. All hold of any proper group, for g and for h.
+-- Powers of a generator b, in any proper group: a product of powers is the power of the sum of their exponents, only the exponent 0 gives 1,
+-- powers are elements, and elements are powers. All hold of g and of h.
 use mathlib.Core.Path.{_≡_, refl, sym, ap, _∙_}
 use mathlib.Core.Bool.{true}
 use mathlib.Core.List.{List, [], _∷_}
