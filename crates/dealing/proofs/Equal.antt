@@ -32,7 +32,7 @@ back q w m h =
 module _ (G : Group) (P : Proper G) where
   pub response-low : (w c e : ℕ) → response G w c e < G .q
   unfolding response
-  response-low w c e = sub-below (G .q) w (mul (G .q) c e) (omega (arith, P .prime-q .above-one))
+  response-low w c e = sub-below (G .q) _ _ (omega (arith, P .prime-q .above-one))
 
   -- what the response gives is the announcement of the nonce
   pub announced-back : (b w c e : ℕ) → isElement G b ≡ true → announced G b (pow (G .p) b e) c (response G w c e) ≡ pow (G .p) b w

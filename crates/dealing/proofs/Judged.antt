@@ -69,7 +69,7 @@ module _ (R : Round) (d : ℕ) (ys b : List ℕ) where
       (true-exponent (groupIn R) (rIn b i) (L .r-low)) (true-exponent (groupIn R) (cIn b i) (L .c-low))
 
   -- ---- accepted
-  pub dealing-accepted : judgeDealingOutcome R d ys b ≡ value tt → AcceptedDealing R d ys b
+  dealing-accepted : judgeDealingOutcome R d ys b ≡ value tt → AcceptedDealing R d ys b
   unfolding judgeDealingOutcome
   dealing-accepted e =
       let m = value-exactly Unit (judgeDealingChecks R d ys b) tt .0 e in
