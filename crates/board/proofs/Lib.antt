@@ -1,0 +1,5 @@
+-- Proofs of what specs/Claims.antt and specs/Demand3.antt state, and the laws that the code's proofs share.
+pub mod Searches
+pub mod Order
+pub mod KeyRecords
+pub mod LineRun
