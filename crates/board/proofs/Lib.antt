@@ -3,3 +3,4 @@ pub mod Searches
 pub mod Order
 pub mod KeyRecords
 pub mod LineRun
+pub mod VerdictCases
