@@ -4,3 +4,5 @@ pub mod Order
 pub mod KeyRecords
 pub mod LineRun
 pub mod VerdictCases
+pub mod Endings
+pub mod TwoBoards
