@@ -176,7 +176,7 @@ module _ (J : Judges) (R : Round) (b : List ℕ) (c : Met (boardChecks R b)) whe
       )
 
   value-draw : (v : Element) → (drawOn J R b ≡ value v)
-      ↔ ((R .t ≤ many) × (SomeStuck J R b → ⊥) × (v ≡ record { 0 = productOf (groupIn R .p) (map (secretAt J R b c) (acceptedDealers J R b)) }))
+      ↔ ((R .t ≤ many) × (SomeStuck J R b → ⊥) × (v .0 ≡ productOf (groupIn R .p) (map (secretAt J R b c) (acceptedDealers J R b))))
   value-draw v =
       let n = count-is in
       let p = multiplied J R b c (groupIn R .p) (members (R .n)) in (
@@ -184,13 +184,13 @@ module _ (J : Judges) (R : Round) (b : List ℕ) (c : Met (boardChecks R b)) whe
             let m = value-met lastChecks drawValue v (sym draw-is ∙ e) in (
               omega (arith, leb-true (R .t) (countAccepted (verdictsOn J R b)) (m .0 .0)),
               λ s. false-true (sym (unflipped (anyStuck (verdictsOn J R b)) (m .0 .1 .0)) ∙ some-stuck .1 s),
-              sym (m .1) ∙ (λ j. record { 0 = p j }),
+              ap (λ (x : Element). x .0) (sym (m .1)) ∙ p,
             ),
         λ h.
             draw-is
             ∙ value-exactly Element lastChecks drawValue .1
             (le-leb (R .t) (countAccepted (verdictsOn J R b)) (omega (arith, h .0)), (none-stuck (anyStuck (verdictsOn J R b)) (λ e. h .1 (some-stuck .0 e)), tt))
-            ∙ ap value ((λ j. record { 0 = p j }) ∙ sym (h .2)),
+            ∙ (λ j. value (record { 0 = (p ∙ sym (h .2)) j })),
       )
     where
       none-stuck : (x : Bool) → (x ≡ true → ⊥) → pick x false true ≡ true

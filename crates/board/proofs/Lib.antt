@@ -6,3 +6,4 @@ pub mod LineRun
 pub mod VerdictCases
 pub mod Endings
 pub mod TwoBoards
+pub mod Demand3

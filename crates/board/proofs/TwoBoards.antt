@@ -36,9 +36,6 @@ use Rattle.board.proofs.Order.{reached, shapes}
 use Rattle.board.proofs.VerdictCases.{Source, opened, recovers, stuck, source-of, share-true, shares-ascend, verdict-rules}
 use Rattle.board.proofs.Endings.{end-rules}
 
-abbrev hPower : Round → ℕ → ℕ
-hPower R s = powerOfH R s .0
-
 -- ---- one recoverable dealing
 module _ (J : Judges) (R : Round) (b : List ℕ) (c : Met (boardChecks R b)) (d : ℕ) (cs : List ℕ) (S : Recoverable J R b d cs) where
   -- the records whose shares serve
@@ -75,19 +72,18 @@ module _ (J : Judges) (R : Round) (b : List ℕ) (c : Met (boardChecks R b)) (d 
   serving-recover l =
       let G = groupIn R in
       let r = reached R b c .round in
-      let f : ℕ → ℕ = λ i. hPower R (valueAt (G .q) cs i) in
+      let f : ℕ → ℕ = λ i. powerOfH R (valueAt (G .q) cs i) in
       let trues : map (λ i. recordAt b i .w3) serving ≡ map f (map memberIn serving) =
       map-same (λ i. recordAt b i .w3) (λ i. f (memberIn i)) serving (All-to serving (λ i s. S .true-shares i (s .0) (s .1)) serving-shares)
       ∙ sym (map-comp memberIn f serving) in
-      let e = ap (recovered G (map memberIn serving)) trues
-      ∙ recovered-secret R r cs (S .carries .polynomial) (G .h .0) (ready R r .proper .h-generates) (map memberIn serving) (serving-quorum l) in
-      λ j. record { 0 = e j }
+      ap (recovered G (map memberIn serving)) trues
+      ∙ recovered-secret R r cs (S .carries .polynomial) (G .h .0) (ready R r .proper .h-generates) (map memberIn serving) (serving-quorum l)
 
-  secret-is : Source J R b c d → secretValue (secretBy J R b d) ≡ hPower R (secretOf R cs)
+  secret-is : Source J R b c d → secretValue (secretBy J R b d) ≡ powerOfH R (secretOf R cs)
   secret-is (opened o e) =
       let s = opening-exactly R (reached R b c .round) cs (commitmentsOf R b d) (S .carries) (recordAt b (o .at) .w3) .0 (o .right) in
-      ap secretValue e ∙ ap (hPower R) s
-  secret-is (recovers n l e) = ap secretValue e ∙ ap (λ (v : Element). v .0) (serving-recover l)
+      ap secretValue e ∙ ap (powerOfH R) s
+  secret-is (recovers n l e) = ap secretValue e ∙ serving-recover l
   secret-is (stuck n l e) = absurd (⊎-elim n (λ h. omega arith) (S .enough))
 
   not-stuck : secretBy J R b d ≡ Stuck → ⊥
@@ -99,9 +95,9 @@ module _ (J : Judges) (R : Round) (b : List ℕ) (f : ℕ → List ℕ) (A : All
   accepted-within =
       filter-all (isAccepted J R b) (λ d. (1 ≤ d) × (d ≤ R .n)) (members (R .n)) (each-members (λ d. (1 ≤ d) × (d ≤ R .n)) (R .n) (λ i h l. (h, l)))
 
-  secrets : map (λ d. secretValue (secretBy J R b d)) (acceptedDealers J R b) ≡ map (λ d. hPower R (secretOf R (f d))) (acceptedDealers J R b)
+  secrets : map (λ d. secretValue (secretBy J R b d)) (acceptedDealers J R b) ≡ map (λ d. powerOfH R (secretOf R (f d))) (acceptedDealers J R b)
   secrets =
-      map-same (λ d. secretValue (secretBy J R b d)) (λ d. hPower R (secretOf R (f d))) (acceptedDealers J R b)
+      map-same (λ d. secretValue (secretBy J R b d)) (λ d. powerOfH R (secretOf R (f d))) (acceptedDealers J R b)
       (All-to (acceptedDealers J R b)
       (λ d s. secret-is J R b (A .reached) d (f d) (A .each d (s .0 .0) (s .0 .1) (s .1)) (source-of J R b (A .reached) d))
       accepted-within)
@@ -111,14 +107,12 @@ module _ (J : Judges) (R : Round) (b : List ℕ) (f : ℕ → List ℕ) (A : All
       let a = verdict-rules J R b (A .reached) (s .0) .accepted Stuck .0 (s .3) in
       not-stuck J R b (A .reached) (s .0) (f (s .0)) (A .each (s .0) (s .1) (s .2) (a .0)) (a .1)
 
-  ends-in : R .t ≤ length (acceptedDealers J R b) → drawOn J R b ≡ value (secretsOf J R b f)
-  ends-in l =
-      end-rules J R b (A .reached) .drawn (secretsOf J R b f) .1
-      (l, none-stuck, λ j. record { 0 = productOf (groupIn R .p) (sym secrets j) })
+  ends-in : R .t ≤ length (acceptedDealers J R b) → drawOn J R b ≡ value (record { 0 = secretsOf J R b f })
+  ends-in l = end-rules J R b (A .reached) .drawn (record { 0 = secretsOf J R b f }) .1 (l, none-stuck, ap (productOf (groupIn R .p)) (sym secrets))
 
 -- ---- both boards
 pub same-draw : SameDraw
-same-draw J R b c f e A C M l = (ends-in J R b f A l, ends-in J R c e C (subst (λ (ds : List ℕ). R .t ≤ length ds) same l) ∙ ap value (sym other))
+same-draw J R b c f e A C M l = (ends-in J R b f A l, ends-in J R c e C (subst (λ (ds : List ℕ). R .t ≤ length ds) same l) ∙ (λ j. value (record { 0 = sym other j })))
   where
     same : acceptedDealers J R b ≡ acceptedDealers J R c
     same = filter-same (isAccepted J R b) (isAccepted J R c) (members (R .n)) (each-members (λ d. isAccepted J R b d ≡ isAccepted J R c d) (R .n) (M .dealers))
@@ -130,9 +124,9 @@ same-draw J R b c f e A C M l = (ends-in J R b f A l, ends-in J R c e C (subst (
 
     other : secretsOf J R b f ≡ secretsOf J R c e
     other =
-        let maps = map-same (λ d. hPower R (secretOf R (f d))) (λ d. hPower R (secretOf R (e d))) (acceptedDealers J R b)
-        (All-to (acceptedDealers J R b) (λ d s. ap (hPower R) (secret d (s .0 .0) (s .0 .1) (s .1))) (accepted-within J R b f A)) in
-        λ j. record { 0 = productOf (groupIn R .p) ((maps ∙ ap (map (λ d. hPower R (secretOf R (e d)))) same) j) }
+        let maps = map-same (λ d. powerOfH R (secretOf R (f d))) (λ d. powerOfH R (secretOf R (e d))) (acceptedDealers J R b)
+        (All-to (acceptedDealers J R b) (λ d s. ap (powerOfH R) (secret d (s .0 .0) (s .0 .1) (s .1))) (accepted-within J R b f A)) in
+        ap (productOf (groupIn R .p)) (maps ∙ ap (map (λ d. powerOfH R (secretOf R (e d)))) same)
 
 pub same-draw-here : SameDrawHere
 same-draw-here = same-draw judges

@@ -3,7 +3,7 @@
 use mathlib.Core.Path.{_≡_, refl, sym, ap, _∙_, subst}
 use mathlib.Core.Bool.{Bool, true, false, _&&_}
 use mathlib.Core.List.{List, [], _∷_}
-use mathlib.Core.Logic.{_↔_}
+use mathlib.Core.Logic.{_↔_, _⊎_, inl, inr, ⊎-elim}
 use Prim.Native.Nat.{ℕ, suc, _+_, _-_, _*_, _<_, _≤_}
 use native.Mathlib.Decide.{decLe}
 use native.Mathlib.Omega.{arith}
@@ -127,8 +127,8 @@ module _ (J : Judges) (R : Round) (b : List ℕ) (c : Met (boardChecks R b)) (d 
 
   -- ---- how the secret came
   pub data Source : Type 0 where
-    opened : (o : RightlyOpened R b d) → secretBy J R b d ≡ Opened (powerOfH R (recordAt b (o .at) .w3)) → Source
-    recovers : (RightlyOpened R b d → ⊥) → R .t ≤ length (sharesBy J R b d) → secretBy J R b d ≡ Recovered (recoveredFrom R b (take (R .t) (sharesBy J R b d))) → Source
+    opened : (o : RightlyOpened R b d) → secretBy J R b d ≡ Opened (record { 0 = powerOfH R (recordAt b (o .at) .w3) }) → Source
+    recovers : (RightlyOpened R b d → ⊥) → R .t ≤ length (sharesBy J R b d) → secretBy J R b d ≡ Recovered (record { 0 = recoveredFrom R b (take (R .t) (sharesBy J R b d)) }) → Source
     stuck : (RightlyOpened R b d → ⊥) → length (sharesBy J R b d) < R .t → secretBy J R b d ≡ Stuck → Source
 
   pub source-of : Source
@@ -160,6 +160,9 @@ none-refused e = let z : _≡_ {A = ℕ} 0 1 = cc in omega arith
 none-accepted : {s : Secret} → None ≡ Accepted s → ⊥
 none-accepted e = let z : _≡_ {A = ℕ} 0 1 = cc in omega arith
 
+value-refused : {k : ℕ} → _≡_ {A = Outcome Unit} (value tt) (refused k) → ⊥
+value-refused e = let z : _≡_ {A = ℕ} 0 1 = cc in omega arith
+
 refused-accepted : {k : ℕ} {s : Secret} → Refused k ≡ Accepted s → ⊥
 refused-accepted e = let z : _≡_ {A = ℕ} 0 1 = cc in omega arith
 
@@ -170,17 +173,21 @@ module _ (J : Judges) (R : Round) (b : List ℕ) (c : Met (boardChecks R b)) (d 
   none-exactly (rejected n l k g a v) = (λ h. absurd (none-refused (sym h ∙ v)), λ z. absurd (n z))
   none-exactly (passed n l g a v) = (λ h. absurd (none-accepted (sym h ∙ v)), λ z. absurd (n z))
 
-  partial-twelve : Case J R b d → (lineCount b d ≡ 0 → ⊥) → (lineCount b d ≡ R .n → ⊥) → verdictOn J R b d ≡ Refused 12
-  partial-twelve (nothing z a v) n l = absurd (n z)
-  partial-twelve (partial m k a v) n l = v
-  partial-twelve (rejected m w k g a v) n l = absurd (l w)
-  partial-twelve (passed m w g a v) n l = absurd (l w)
+  refuses-exactly : Case J R b d → (k : ℕ) → (verdictOn J R b d ≡ Refused k)
+      ↔ (((lineCount b d ≡ 0 → ⊥) × (lineCount b d ≡ R .n → ⊥) × (k ≡ 12)) ⊎ ((lineCount b d ≡ R .n) × (dealingAnswer J R b d ≡ refused k)))
+  refuses-exactly (nothing z a v) k =
+      (λ h. absurd (none-refused (sym v ∙ h)), ⊎-elim (λ h. absurd (h .0 z)) (λ h. absurd (omega (arith, some-members J R b c d, h .0))))
+  refuses-exactly (partial n l a v) k = (λ h. inl (n, l, cc), ⊎-elim (λ h. v ∙ ap Refused (sym (h .2))) (λ h. absurd (l (h .0))))
+  refuses-exactly (rejected n l i g a v) k =
+      (λ h. inr (l, let s : i ≡ k = cc in g ∙ ap refused s), ⊎-elim (λ h. absurd (h .1 l)) (λ h. let e = h .1 in let s : i ≡ k = cc in v ∙ ap Refused s))
+  refuses-exactly (passed n l g a v) k =
+      (λ h. absurd (refused-accepted (sym h ∙ v)), ⊎-elim (λ h. absurd (h .1 l)) (λ h. absurd (value-refused (sym g ∙ h .1))))
 
-  judged-so : Case J R b d → (k : ℕ) → lineCount b d ≡ R .n → dealingAnswer J R b d ≡ refused k → verdictOn J R b d ≡ Refused k
-  judged-so (nothing z a v) k h e = absurd (omega (arith, some-members J R b c d))
-  judged-so (partial n l a v) k h e = absurd (l h)
-  judged-so (rejected n l i g a v) k h e = v ∙ (let s : i ≡ k = cc in ap Refused s)
-  judged-so (passed n l g a v) k h e = absurd (let z : _≡_ {A = ℕ} 0 1 = cc in omega arith)
+  accepts-exactly : Case J R b d → (isAccepted J R b d ≡ true) ↔ ((lineCount b d ≡ R .n) × (dealingAnswer J R b d ≡ value tt))
+  accepts-exactly (nothing z a v) = (λ h. absurd (false-true (sym a ∙ h)), λ h. absurd (omega (arith, some-members J R b c d, h .0)))
+  accepts-exactly (partial n l a v) = (λ h. absurd (false-true (sym a ∙ h)), λ h. absurd (l (h .0)))
+  accepts-exactly (rejected n l k g a v) = (λ h. absurd (false-true (sym a ∙ h)), λ h. absurd (value-refused (sym (h .1) ∙ g)))
+  accepts-exactly (passed n l g a v) = (λ h. (l, g), λ h. a)
 
   accepted-exactly : Case J R b d → (s : Secret) → (verdictOn J R b d ≡ Accepted s) ↔ ((isAccepted J R b d ≡ true) × (secretBy J R b d ≡ s))
   accepted-exactly (nothing z a v) s = (λ h. absurd (none-accepted (sym v ∙ h)), λ h. absurd (false-true (sym a ∙ h .0)))
@@ -188,18 +195,21 @@ module _ (J : Judges) (R : Round) (b : List ℕ) (c : Met (boardChecks R b)) (d 
   accepted-exactly (rejected n l k g a v) s = (λ h. absurd (refused-accepted (sym v ∙ h)), λ h. absurd (false-true (sym a ∙ h .0)))
   accepted-exactly (passed n l g a v) s = (λ h. (a, cc), λ h. v ∙ ap Accepted (h .1))
 
-  opened-exactly : Source J R b c d → (v : Element) → (secretBy J R b d ≡ Opened v) ↔ ((o : RightlyOpened R b d) × (v ≡ powerOfH R (recordAt b (o .at) .w3)))
+  opened-exactly : Source J R b c d → (v : Element) → (secretBy J R b d ≡ Opened v) ↔ ((o : RightlyOpened R b d) × (v .0 ≡ powerOfH R (recordAt b (o .at) .w3)))
   opened-exactly (opened o e) v = (
     λ h. (o, cc),
-    λ h. e ∙ ap (λ (i : ℕ). Opened (powerOfH R (recordAt b i .w3))) (only-opening J R b c d o ∙ sym (only-opening J R b c d (h .0))) ∙ ap Opened (sym (h .1)),
+    λ h.
+        let s : powerOfH R (recordAt b (o .at) .w3) ≡ v .0 =
+        ap (λ (i : ℕ). powerOfH R (recordAt b i .w3)) (only-opening J R b c d o ∙ sym (only-opening J R b c d (h .0))) ∙ sym (h .1) in
+        e ∙ (λ j. Opened (record { 0 = s j })),
   )
   opened-exactly (recovers n l e) v = (λ h. absurd (opened-recovered (sym h ∙ e)), λ h. absurd (n (h .0)))
   opened-exactly (stuck n l e) v = (λ h. absurd (opened-stuck (sym h ∙ e)), λ h. absurd (n (h .0)))
 
   recovers-exactly : Source J R b c d → (v : Element) → (secretBy J R b d ≡ Recovered v)
-      ↔ ((RightlyOpened R b d → ⊥) × (R .t ≤ length (sharesBy J R b d)) × (v ≡ recoveredFrom R b (take (R .t) (sharesBy J R b d))))
+      ↔ ((RightlyOpened R b d → ⊥) × (R .t ≤ length (sharesBy J R b d)) × (v .0 ≡ recoveredFrom R b (take (R .t) (sharesBy J R b d))))
   recovers-exactly (opened o e) v = (λ h. absurd (opened-recovered (sym e ∙ h)), λ h. absurd (h .0 o))
-  recovers-exactly (recovers n l e) v = (λ h. (n, l, cc), λ h. e ∙ ap Recovered (sym (h .2)))
+  recovers-exactly (recovers n l e) v = (λ h. (n, l, cc), λ h. e ∙ (λ j. Recovered (record { 0 = sym (h .2) j })))
   recovers-exactly (stuck n l e) v = (λ h. absurd (recovered-stuck (sym h ∙ e)), λ h. absurd (omega (arith, h .1)))
 
   stuck-exactly : Source J R b c d → (secretBy J R b d ≡ Stuck) ↔ ((RightlyOpened R b d → ⊥) × (length (sharesBy J R b d) < R .t))
@@ -214,8 +224,8 @@ verdict-rules J R b c d =
     let n = none-exactly J R b c d v in
     record {
       none = (λ h. some-lines J R b c d (n .0 h), λ h. n .1 (no-lines J R b c d h));
-      some = partial-twelve J R b c d v;
-      judged = judged-so J R b c d v;
+      refuses = refuses-exactly J R b c d v;
+      accepts = accepts-exactly J R b c d v;
       accepted = accepted-exactly J R b c d v;
       opened = opened-exactly J R b c d s;
       recovers = recovers-exactly J R b c d s;

@@ -61,13 +61,13 @@ pub record RightlyOpened (R : Round) (b : List ℕ) (d : ℕ) : Type 0 where
   pub dealer : recordAt b at .w1 ≡ d
   pub right : openingOutcome R (commitmentsOf R b d) (recordAt b at .w3) ≡ value tt
 
--- h to the exponent s, as an element of the group
-abbrev pub powerOfH : Round → ℕ → Element
-powerOfH R s = record { 0 = pow (groupIn R .p) (groupIn R .h .0) s }
+-- h^s
+abbrev pub powerOfH : Round → ℕ → ℕ
+powerOfH R s = pow (groupIn R .p) (groupIn R .h .0) s
 
--- what the shares in the records is give
-abbrev pub recoveredFrom : Round → List ℕ → List ℕ → Element
-recoveredFrom R b is = record { 0 = recovered (groupIn R) (map (λ i. recordAt b i .w2) is) (map (λ i. recordAt b i .w3) is) }
+-- what recovery gives from the shares in the records is
+abbrev pub recoveredFrom : Round → List ℕ → List ℕ → ℕ
+recoveredFrom R b is = recovered (groupIn R) (map (λ i. recordAt b i .w2) is) (map (λ i. recordAt b i .w3) is)
 
 -- each number is below all that follow it
 abbrev pub Ascending : List ℕ → Type 0
@@ -87,16 +87,17 @@ productOf p (x ∷ xs) = mul p x (productOf p xs)
 pub record VerdictRule (J : Judges) (R : Round) (b : List ℕ) (d : ℕ) : Type 0 where
   -- none exactly where he has no lines
   pub none : (verdictOn J R b d ≡ None) ↔ ((i : ℕ) → i < recordsIn b → recordAt b i .w0 ≡ 2 → recordAt b i .w1 ≡ d → ⊥)
-  -- some lines, but not n: refused 12
-  pub some : (lineCount b d ≡ 0 → ⊥) → (lineCount b d ≡ R .n → ⊥) → verdictOn J R b d ≡ Refused 12
-  -- n lines: what the judge of dealings answers
-  pub judged : (k : ℕ) → lineCount b d ≡ R .n → dealingAnswer J R b d ≡ refused k → verdictOn J R b d ≡ Refused k
+  -- refused by 12 where he has some lines but not n, and by the judge's number where it refuses his n lines
+  pub refuses : (k : ℕ) → (verdictOn J R b d ≡ Refused k)
+      ↔ (((lineCount b d ≡ 0 → ⊥) × (lineCount b d ≡ R .n → ⊥) × (k ≡ 12)) ⊎ ((lineCount b d ≡ R .n) × (dealingAnswer J R b d ≡ refused k)))
+  -- accepted where the judge accepts his n lines
+  pub accepts : (isAccepted J R b d ≡ true) ↔ ((lineCount b d ≡ R .n) × (dealingAnswer J R b d ≡ value tt))
   pub accepted : (s : Secret) → (verdictOn J R b d ≡ Accepted s) ↔ ((isAccepted J R b d ≡ true) × (secretBy J R b d ≡ s))
-  -- opened exactly where the board's kind 3 record of the dealer holds an accepted opening; the secret is h to it
-  pub opened : (v : Element) → (secretBy J R b d ≡ Opened v) ↔ ((o : RightlyOpened R b d) × (v ≡ powerOfH R (recordAt b (o .at) .w3)))
+  -- the secret is opened exactly where the board's kind 3 record of the dealer holds an accepted opening, and is h to it
+  pub opened : (v : Element) → (secretBy J R b d ≡ Opened v) ↔ ((o : RightlyOpened R b d) × (v .0 ≡ powerOfH R (recordAt b (o .at) .w3)))
   -- recovered exactly where no opening is right and t or more shares are accepted; the t lowest members serve
   pub recovers : (v : Element) → (secretBy J R b d ≡ Recovered v)
-      ↔ ((RightlyOpened R b d → ⊥) × (R .t ≤ length (sharesBy J R b d)) × (v ≡ recoveredFrom R b (take (R .t) (sharesBy J R b d))))
+      ↔ ((RightlyOpened R b d → ⊥) × (R .t ≤ length (sharesBy J R b d)) × (v .0 ≡ recoveredFrom R b (take (R .t) (sharesBy J R b d))))
   pub lowest-first : Ascending (map (λ i. recordAt b i .w2) (sharesBy J R b d))
   -- stuck exactly where no opening is right and fewer than t shares are accepted
   pub stuck : (secretBy J R b d ≡ Stuck) ↔ ((RightlyOpened R b d → ⊥) × (length (sharesBy J R b d) < R .t))
@@ -122,7 +123,7 @@ pub record EndRule (J : Judges) (R : Round) (b : List ℕ) : Type 0 where
   -- a draw exactly where t or more are accepted and none is stuck: the product modulo p of the secrets of the accepted dealings
   pub drawn : (v : Element) → (drawOn J R b ≡ value v)
       ↔ ((R .t ≤ length (acceptedDealers J R b)) × (SomeStuck J R b → ⊥)
-      × (v ≡ record { 0 = productOf (groupIn R .p) (map (λ d. secretValue (secretBy J R b d)) (acceptedDealers J R b)) }))
+      × (v .0 ≡ productOf (groupIn R .p) (map (λ d. secretValue (secretBy J R b d)) (acceptedDealers J R b))))
 
 abbrev pub EndRules : Type 0
 EndRules = (J : Judges) (R : Round) (b : List ℕ) → Met (boardChecks R b) → EndRule J R b
@@ -132,7 +133,7 @@ EndRules = (J : Judges) (R : Round) (b : List ℕ) → Met (boardChecks R b) →
 pub record Recoverable (J : Judges) (R : Round) (b : List ℕ) (d : ℕ) (cs : List ℕ) : Type 0 where
   pub carries : Carries R cs (commitmentsOf R b d)
   pub true-shares : (i : ℕ) → i < recordsIn b → isShareBy J R b d i ≡ true
-      → recordAt b i .w3 ≡ pow (groupIn R .p) (groupIn R .h .0) (valueAt (groupIn R .q) cs (recordAt b i .w2))
+      → recordAt b i .w3 ≡ powerOfH R (valueAt (groupIn R .q) cs (recordAt b i .w2))
   pub enough : RightlyOpened R b d ⊎ (R .t ≤ length (sharesBy J R b d))
 
 -- no check before the verdicts refuses the board, and every accepted dealing is recoverable, that of d with the polynomial f d
@@ -146,8 +147,8 @@ pub record SameDealings (J : Judges) (R : Round) (b c : List ℕ) : Type 0 where
   pub commitments : (d : ℕ) → 1 ≤ d → d ≤ R .n → isAccepted J R b d ≡ true → commitmentsOf R b d ≡ commitmentsOf R c d
 
 -- the product modulo p of the h^s of the accepted dealings, that of d with the polynomial f d
-abbrev pub secretsOf : Judges → Round → List ℕ → (ℕ → List ℕ) → Element
-secretsOf J R b f = record { 0 = productOf (groupIn R .p) (map (λ d. powerOfH R (secretOf R (f d)) .0) (acceptedDealers J R b)) }
+abbrev pub secretsOf : Judges → Round → List ℕ → (ℕ → List ℕ) → ℕ
+secretsOf J R b f = productOf (groupIn R .p) (map (λ d. powerOfH R (secretOf R (f d))) (acceptedDealers J R b))
 
 -- F. Any two boards of one group, n and t with the same accepted dealings, at least t of them, each carried by a polynomial of degree
 -- below t, end in the same draw value, the product of the h^s modulo p, if on each board every one of these dealings is rightly opened
@@ -156,12 +157,12 @@ abbrev pub SameDrawBy : Judges → Type 0
 SameDrawBy J =
     (R : Round) (b c : List ℕ) (f e : ℕ → List ℕ) → AllRecoverable J R b f → AllRecoverable J R c e → SameDealings J R b c
     → R .t ≤ length (acceptedDealers J R b)
-    → (drawOn J R b ≡ value (secretsOf J R b f)) × (drawOn J R c ≡ value (secretsOf J R b f))
+    → (drawOn J R b ≡ value (record { 0 = secretsOf J R b f })) × (drawOn J R c ≡ value (record { 0 = secretsOf J R b f }))
 
 -- whatever the judges are
 abbrev pub SameDraw : Type 0
 SameDraw = (J : Judges) → SameDrawBy J
 
--- with the judges of the crate dealing, whose draw is the board judge's answer
+-- with the judges of the crate dealing: what the board judge answers
 abbrev pub SameDrawHere : Type 0
 SameDrawHere = SameDrawBy judges
