@@ -1,12 +1,12 @@
--- The blocks of the padded message, and the hash value after each.
+-- The words of a block, and an array that is filled with them in order.
 use mathlib.Core.Path.{_≡_, refl, sym, ap, _∙_}
-use mathlib.Core.List.{List, [], _∷_, _++_}
-use Prim.Native.Nat.{ℕ, suc, _+_, _*_, _≤_, _<_}
+use mathlib.Core.List.{List}
+use Prim.Native.Nat.{ℕ, _+_, _*_, _≤_, _<_}
 use native.Mathlib.Numerals.{add-one}
 use native.Mathlib.Omega.{arith}
 use lib.ListN.{length, getD, take, set}
 use lib.Seq.{take-suc, take-suc-set, take-all}
-use Rattle.words.specs.Lists.{map, upFrom}
+use Rattle.words.specs.Lists.{upFrom}
 use Rattle.words.specs.Bytes.{wordAt}
 use Rattle.words.proofs.Lists.{map-at, up-at}
 use Rattle.sha256.specs.Padding.{block}

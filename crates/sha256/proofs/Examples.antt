@@ -6,10 +6,12 @@ use Rattle.sha256.specs.Padding.{zeroBits, bits64, pad, blocks, block}
 use Rattle.sha256.specs.Hash.{later, W, schedule, T₁, T₂, round, rounds, plus, compress, intermediate, hashValue, hash}
 use Rattle.sha256.specs.Claims.{Abc, Empty}
 
-pub abc : Abc
+both : Abc × Empty
 unfolding wordAt wordBytes wordsBytes recordBytes K initial zeroBits bits64 pad blocks block later W schedule T₁ T₂ round rounds plus compress intermediate hashValue hash
-abc = refl
+both = (refl, refl)
+
+pub abc : Abc
+abc = both .0
 
 pub empty : Empty
-unfolding wordAt wordBytes wordsBytes recordBytes K initial zeroBits bits64 pad blocks block later W schedule T₁ T₂ round rounds plus compress intermediate hashValue hash
-empty = refl
+empty = both .1

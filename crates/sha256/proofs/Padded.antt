@@ -1,7 +1,7 @@
 -- The padded message: its length, its bytes, and its words.
-use mathlib.Core.Path.{_≡_, refl, sym, ap, _∙_}
+use mathlib.Core.Path.{_≡_, _∙_}
 use mathlib.Core.List.{List, [], _∷_, _++_, append-assoc}
-use Prim.Native.Nat.{ℕ, suc, _+_, _-_, _*_, _/_, _%_, _^_, _≤_, _<_}
+use Prim.Native.Nat.{ℕ, _+_, _-_, _*_, _/_, _%_, _^_, _≤_, _<_}
 use native.Mathlib.Omega.{arith}
 use lib.ListN.{length, getD, replicate, length-append, length-replicate, getD-replicate, replicate-append-replicate, List·getD-append}
 use lib.Seq.{getD-append-add, getD-append-seam}
@@ -69,18 +69,25 @@ module _ (m : List ℕ) where
         let k = i - (length m + 1) in
         let e : i ≡ length start + k = omega (arith, start-length) in
         let l : k < length zeros = omega (arith, zeros-length, pad-length) in
-        (λ j. getD (parts j) (e j) 0) ∙ getD-append-add start _ k 0 ∙ List·getD-append zeros _ 0 k l ∙ getD-replicate _ k 0 0 (rw length-replicate at l)
+        (λ j. getD (parts j) (e j) 0)
+        ∙ getD-append-add start _ k 0
+        ∙ List·getD-append zeros _ 0 k l
+        ∙ getD-replicate _ k 0 0 (rw length-replicate at l)
 
     pub pad-word-zero : (k : ℕ) → length m < k → k + 8 ≤ length (pad m) → wordAt (pad m) k ≡ 0
     unfolding wordAt
     pad-word-zero k a b =
-        λ j. word (pad-zero k a (omega arith) j) (pad-zero (k + 1) (omega arith) (omega arith) j) (pad-zero (k + 2) (omega arith) (omega arith) j) (pad-zero (k + 3) (omega arith) (omega arith) j)
+        let byte : (i : ℕ) → k ≤ i → i < k + 4 → getD (pad m) i 0 ≡ 0 = λ i x y. pad-zero i (omega arith) (omega arith) in
+        λ j. word (byte k (omega arith) (omega arith) j) (byte (k + 1) (omega arith) (omega arith) j) (byte (k + 2) (omega arith) (omega arith) j) (byte (k + 3) (omega arith) (omega arith) j)
 
     pub pad-word-last : (k : ℕ) → k + 4 ≡ length (pad m) → wordAt (pad m) k ≡ 8 * length m
     unfolding wordBytes
     pad-word-last k a =
         let e : k ≡ length start + (length zeros + 0) = omega (arith, start-length, zeros-length, pad-length) in
-        (λ j. wordAt (parts j) (e j)) ∙ word-append start _ (length zeros + 0) ∙ word-append zeros _ 0 ∙ word-back (8 * length m) [] (omega arith)
+        (λ j. wordAt (parts j) (e j))
+        ∙ word-append start _ (length zeros + 0)
+        ∙ word-append zeros _ 0
+        ∙ word-back (8 * length m) [] (omega arith)
 
 pub whole-blocks : WholeBlocks
 whole-blocks m = omega (arith, pad-length m)

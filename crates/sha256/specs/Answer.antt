@@ -1,4 +1,4 @@
--- What `digest` answers, by cases, and what it is to answer for a message.
+-- The answers of `digest` as outcomes, and the outcome for each message.
 use mathlib.Core.List.{List, [], _∷_}
 use Prim.Native.Nat.{ℕ}
 use lib.Dec.{leb}
@@ -9,6 +9,7 @@ use Rattle.sha256.specs.declared.DigestAnswer.{DigestAnswer}
 use Rattle.sha256.specs.declared.DigestAnswer.the-variants.{Value, Refused}
 use Rattle.sha256.specs.Hash.{hashValue}
 
+-- the number or the value of each answer
 abbrev pub outcomeOf : DigestAnswer → Outcome Record
 outcomeOf (Value r) = value r
 outcomeOf (Refused k) = refused k
@@ -17,5 +18,6 @@ outcomeOf (Refused k) = refused k
 abbrev pub digestChecks : List ℕ → List Check
 digestChecks m = 3 unless leb (length m) 65536 ∷ []
 
+-- the hash value, or the refusal
 abbrev pub digestOutcome : List ℕ → Outcome Record
 digestOutcome m = outcome (digestChecks m) (hashValue m)

@@ -12,13 +12,15 @@ use Rattle.sha256.specs.Padding.{zeroBits, pad}
 use Rattle.sha256.specs.Hash.{hashValue, hash}
 use Rattle.sha256.specs.Answer.{digestOutcome}
 
--- ---- worked examples of the standard: the message "abc", and the empty message
+-- ---- worked examples
+-- the message "abc"
 abbrev pub Abc : Type 0
 Abc =
     hash (97 ∷ 98 ∷ 99 ∷ [])
     ≡ 0xba ∷ 0x78 ∷ 0x16 ∷ 0xbf ∷ 0x8f ∷ 0x01 ∷ 0xcf ∷ 0xea ∷ 0x41 ∷ 0x41 ∷ 0x40 ∷ 0xde ∷ 0x5d ∷ 0xae ∷ 0x22 ∷ 0x23
     ∷ 0xb0 ∷ 0x03 ∷ 0x61 ∷ 0xa3 ∷ 0x96 ∷ 0x17 ∷ 0x7a ∷ 0x9c ∷ 0xb4 ∷ 0x10 ∷ 0xff ∷ 0x61 ∷ 0xf2 ∷ 0x00 ∷ 0x15 ∷ 0xad ∷ []
 
+-- the empty message
 abbrev pub Empty : Type 0
 Empty =
     hash []
@@ -35,15 +37,19 @@ abbrev pub WholeBlocks : Type 0
 WholeBlocks = (m : List ℕ) → length (pad m) % 64 ≡ 0
 
 -- ---- hash values
+-- each word fits in 32 bits
 abbrev pub HashWords : Type 0
 HashWords = (m : List ℕ) → Below (2 ^ 32) (recordWords (hashValue m))
 
+-- a digest is 32 bytes
 abbrev pub HashBytes : Type 0
 HashBytes = (m : List ℕ) → (length (hash m) ≡ 32) × Below 256 (hash m)
 
 -- ---- answers
+-- a value is answered exactly for a message that is not too long, and it is its hash value
 abbrev pub DigestValue : Type 0
 DigestValue = (m : List ℕ) (r : Record) → (digestOutcome m ≡ value r) ↔ ((length m ≤ 65536) × (hashValue m ≡ r))
 
+-- a message is refused exactly if it is too long, and by 3 alone
 abbrev pub DigestRefused : Type 0
 DigestRefused = (m : List ℕ) (k : ℕ) → (digestOutcome m ≡ refused k) ↔ ((65536 < length m) × (k ≡ 3))

@@ -70,7 +70,7 @@ const K: [u32; 64] = [
 ];
 
 // The table as an array, to be made once for all the rounds of a block.
-pub fn constants() -> [u32; 64]
+pub(crate) fn constants() -> [u32; 64]
     ensures { λ r. ⌜ r ≡ K ⌝ }
 {
     K

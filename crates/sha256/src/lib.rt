@@ -24,10 +24,10 @@ pub fn digest(s: &[u8]) -> DigestAnswer
     if 65536 < s.len() {
         return DigestAnswer::Refused(3);
     }
-    let n = padding::blocks(s);
+    let count = padding::blocks(s);
     let mut state = State::new();
     let mut i: usize = 0;
-    while i < n {
+    while i < count {
         let m = padding::block(s, i);
         state = state.absorb(&m);
         i += 1;

@@ -1,19 +1,19 @@
-// The padded message, FIPS 180-4, sections 5.1.1 and 5.2.1, read word by word: it is never laid out.
+// The padded message, FIPS 180-4, sections 5.1.1 and 5.2.1. Its words are worked out one by one, so it needs no buffer.
 ghost use mathlib.Core.Path.{_≡_};
 ghost use Prim.Native.Nat.{_+_, _*_, _<_, _≤_};
 ghost use lib.ListN.{length, getD};
 ghost use Rattle.words.specs.Bytes.{wordAt};
 ghost use Rattle.sha256.specs.Padding.{pad, blocks, block};
 
-// The number of blocks.
-pub fn blocks(s: &[u8]) -> usize
+// The number of blocks of the padded message.
+pub(crate) fn blocks(s: &[u8]) -> usize
     requires { ⌜ length (now s) ≤ 65536 ⌝ }
     ensures { λ r. ⌜ r ≡ blocks (pad (now (s .entry))) ⌝ }
 {
     (s.len() + 72) / 64
 }
 
-// Byte i, before the last word.
+// Byte i of the padded message, before the last word, which holds the length.
 fn padded_byte(s: &[u8], i: usize) -> u8
     requires { ⌜ (length (now s) ≤ 65536) × (i + 4 < length (pad (now s))) ⌝ }
     ensures { λ r. ⌜ r ≡ getD (pad (now (s .entry))) i 0 ⌝ }
@@ -28,7 +28,7 @@ fn padded_byte(s: &[u8], i: usize) -> u8
     0
 }
 
-// The word from byte k on, in which the message ends.
+// The word from byte k on, put together byte by byte: the one in which the message ends.
 fn end_word(s: &[u8], k: usize) -> u32
     requires { ⌜ (length (now s) ≤ 65536) × (k + 8 ≤ length (pad (now s))) ⌝ }
     ensures { λ r. ⌜ r ≡ wordAt (pad (now (s .entry))) k ⌝ }
@@ -42,7 +42,7 @@ fn end_word(s: &[u8], k: usize) -> u32
     words::word_at(&b, 0)
 }
 
-// Word j.
+// Word j of the padded message.
 fn padded_word(s: &[u8], j: usize) -> u32
     requires { ⌜ (length (now s) ≤ 65536) × (j < 16 * blocks (pad (now s))) ⌝ }
     ensures { λ r. ⌜ r ≡ wordAt (pad (now (s .entry))) (4 * j) ⌝ }
@@ -61,8 +61,8 @@ fn padded_word(s: &[u8], j: usize) -> u32
     0
 }
 
-// The sixteen words of block i.
-pub fn block(s: &[u8], i: usize) -> [u32; 16]
+// The sixteen words of block i of the padded message.
+pub(crate) fn block(s: &[u8], i: usize) -> [u32; 16]
     requires { ⌜ (length (now s) ≤ 65536) × (i < blocks (pad (now s))) ⌝ }
     ensures { λ r. ⌜ r ≡ block (pad (now (s .entry))) i ⌝ }
 {

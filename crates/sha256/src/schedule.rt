@@ -31,7 +31,7 @@ fn later_word(w: &[u32; 64], t: usize) -> u32
 }
 
 // The 64 words of the schedule of a block.
-pub fn schedule(m: &[u32; 16]) -> [u32; 64]
+pub(crate) fn schedule(m: &[u32; 16]) -> [u32; 64]
     ensures { λ r. ⌜ r ≡ schedule (now (m .entry)) 64 ⌝ }
 {
     let mut w = first_words(m);

@@ -1,6 +1,6 @@
 -- `digest` refuses a message that is too long, and else absorbs its blocks.
 -- Invariant: the state is the hash value after the first i blocks.
-use mathlib.Core.Path.{_≡_, ap, _∙_}
+use mathlib.Core.Path.{_≡_}
 use Prim.Native.Nat.{_-_, _≤_}
 use native.Mathlib.Numerals.{add-one}
 use native.Mathlib.Omega.{arith}
@@ -12,10 +12,10 @@ use Rattle.sha256.proofs.digest.Statement.{statement}
 use Rattle.sha256.proofs.digest.Tie as tie
 
 abbrev Inv-loop : tie.InvT-loop
-Inv-loop s n state₀ i₀ state i = (i ≤ n) × (state ≡ intermediate (pad s) i)
+Inv-loop s count state₀ i₀ state i = (i ≤ count) × (state ≡ intermediate (pad s) i)
 
 abbrev μ-loop : tie.MeasureT-loop
-μ-loop s n state₀ i₀ state i = n - i
+μ-loop s count state₀ i₀ state i = count - i
 
 returns : tie.Need-returns Inv-loop μ-loop
 returns c = simp (lt-leb _ _ (c .if1 .taken))

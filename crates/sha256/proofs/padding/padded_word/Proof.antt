@@ -40,10 +40,16 @@ cast-result : tie.Need-cast-result
 cast-result c = search needs
 
 returns-3 : tie.Need-returns-3
-returns-3 c = let s = c .before .before .before .before .before .args .s .now in sym (pad-word-last s (c .before .before .before .before .before .pre .0) _ (omega (arith, pad-length s, pad-blocks s)))
+returns-3 c =
+    let u = c .before .before .before .before .before in
+    let s = u .args .s .now in
+    sym (pad-word-last s (u .pre .0) _ (omega (arith, pad-length s, pad-blocks s)))
 
 returns-4 : tie.Need-returns-4
-returns-4 c = let s = c .before .before .before .before .before .args .s .now in sym (pad-word-zero s (c .before .before .before .before .before .pre .0) _ (omega arith) (omega (arith, pad-length s, pad-blocks s)))
+returns-4 c =
+    let u = c .before .before .before .before .before in
+    let s = u .args .s .now in
+    sym (pad-word-zero s (u .pre .0) _ (omega arith) (omega (arith, pad-length s, pad-blocks s)))
 
 pub padded-word-spec : {M : Type 1} → statement M
 padded-word-spec =

@@ -6,7 +6,7 @@ use native.Mathlib.Omega.{arith}
 use borrow.Author.Needs.{needs}
 use lib.ListN.{length, take}
 use Rattle.sha256.specs.Hash.{schedule}
-use Rattle.sha256.proofs.Steps.{first-next}
+use Rattle.sha256.proofs.ScheduleWords.{first-next}
 use Rattle.sha256.proofs.schedule.first_words.Statement.{statement}
 use Rattle.sha256.proofs.schedule.first_words.Tie as tie
 

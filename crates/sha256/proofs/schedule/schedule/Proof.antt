@@ -6,7 +6,7 @@ use borrow.Author.Needs.{needs}
 use lib.ListN.{length, take}
 use lib.Seq.{take-all}
 use Rattle.sha256.specs.Hash.{schedule}
-use Rattle.sha256.proofs.Steps.{later-next}
+use Rattle.sha256.proofs.ScheduleWords.{later-next}
 use Rattle.sha256.proofs.schedule.schedule.Statement.{statement}
 use Rattle.sha256.proofs.schedule.schedule.Tie as tie
 
