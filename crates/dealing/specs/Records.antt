@@ -4,7 +4,7 @@ use mathlib.Core.List.{List, [], _∷_, _++_}
 use Prim.Native.Nat.{ℕ, _-_, _*_}
 use lib.ListN.{getD, take, drop}
 use lib.Dec.{leb, ltb, eqb}
-use Rattle.words.specs.Bytes.{recordBytes, recordIn}
+use Rattle.words.specs.Bytes.{recordWords, recordBytes, recordIn}
 use Rattle.words.specs.declared.Record.{Record}
 use Rattle.group.specs.Element.{isElement}
 use Rattle.group.specs.declared.Group.{Group}
@@ -36,6 +36,10 @@ recordAt b k = recordIn (take 32 (drop (32 * k) b))
 -- the record of member i among the members' records
 abbrev pub recordOf : List ℕ → ℕ → Record
 recordOf b i = recordAt b (i - 1)
+
+-- the word k of that record
+abbrev pub wordOf : ℕ → List ℕ → ℕ → ℕ
+wordOf k b i = getD (recordWords (recordOf b i)) k 0
 
 -- the bytes of the record of each member of a list
 unfoldable pub recordsBytes : (ℕ → Record) → List ℕ → List ℕ

@@ -1,4 +1,12 @@
 // Dealings and opened shares: the hashed messages, proofs of equal logarithms, writers and judges.
+mod equality;
+mod message;
+mod records;
+
+pub use equality::{announced, announcements, equality, response};
+pub use message::{check_polynomial, dealing_challenge, share_challenge};
+pub use records::{all_keys, column, is_key, is_key_record, is_line_record, is_opening_record, is_secret_key, is_share_record, record_at};
+
 use group::{Element, Exponent};
 
 // A proof with lent figures that x1 is b1 and x2 is b2 to one exponent: the announcements a1 and a2, the challenge c, the response r.
