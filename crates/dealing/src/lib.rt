@@ -1,9 +1,9 @@
 // Dealings and opened shares: the hashed messages, proofs of equal logarithms, writers and judges.
-mod equality;
+mod logarithms;
 mod message;
 mod records;
 
-pub use equality::{announced, announcements, equality, response};
+pub use logarithms::{announced, announcements, equality_check, response};
 pub use message::{check_polynomial, dealing_challenge, share_challenge};
 pub use records::{all_keys, column, is_key, is_key_record, is_line_record, is_opening_record, is_secret_key, is_share_record, record_at};
 

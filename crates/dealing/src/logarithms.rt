@@ -47,7 +47,7 @@ pub fn response(gr: Group, w: Exponent, c: Exponent, e: Exponent) -> Exponent
 
 // One proof with lent figures. Refused: 1 no group of that number; 6 a figure that is no element; 7 c or r not below q;
 // 10 an equation for a1 or a2 fails.
-pub fn equality(number: u32, e: Equality) -> CheckAnswer
+pub fn equality_check(number: u32, e: Equality) -> CheckAnswer
     ensures { λ r. ⌜ checkOutcomeOf r ≡ equalityOutcome number e ⌝ }
 {
     let GroupAnswer::Value(gr) = group_of(number) else {
