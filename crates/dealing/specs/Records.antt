@@ -9,9 +9,13 @@ use Rattle.words.specs.declared.Record.{Record}
 use Rattle.group.specs.Element.{isElement}
 use Rattle.group.specs.declared.Group.{Group}
 
+-- words 4 to 7 are spare
+abbrev pub isSpare : Record → Bool
+isSpare r = eqb (r .w4) 0 && (eqb (r .w5) 0 && (eqb (r .w6) 0 && eqb (r .w7) 0))
+
 -- kind 1, a key: dealer 0, y in word 3, the rest spare
 unfoldable pub isKeyRecord : Record → Bool
-isKeyRecord r = eqb (r .w0) 1 && (eqb (r .w1) 0 && (eqb (r .w4) 0 && (eqb (r .w5) 0 && (eqb (r .w6) 0 && eqb (r .w7) 0))))
+isKeyRecord r = eqb (r .w0) 1 && (eqb (r .w1) 0 && isSpare r)
 
 -- kind 2, a line: a commitment v and an encrypted share Y with its proof r, c; word 7 spare
 unfoldable pub isLineRecord : Record → Bool
@@ -19,7 +23,7 @@ isLineRecord r = eqb (r .w0) 2 && eqb (r .w7) 0
 
 -- kind 3, an opening: member 0, s in word 3, the rest spare
 unfoldable pub isOpeningRecord : Record → Bool
-isOpeningRecord r = eqb (r .w0) 3 && (eqb (r .w2) 0 && (eqb (r .w4) 0 && (eqb (r .w5) 0 && (eqb (r .w6) 0 && eqb (r .w7) 0))))
+isOpeningRecord r = eqb (r .w0) 3 && (eqb (r .w2) 0 && isSpare r)
 
 -- kind 4, an opened share (a decrypted share): S, c, r in words 3, 4 and 5, the rest spare
 unfoldable pub isShareRecord : Record → Bool

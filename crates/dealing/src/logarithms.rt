@@ -59,10 +59,10 @@ pub fn equality_check(number: u32, e: Equality) -> CheckAnswer
     if !all_exponents(gr, &[e.c.0, e.r.0]) {
         return CheckAnswer::Refused(7);
     }
-    if announced(gr, e.b1, e.x1, e.c, e.r).0 != e.a1.0 {
+    if e.a1.0 != announced(gr, e.b1, e.x1, e.c, e.r).0 {
         return CheckAnswer::Refused(10);
     }
-    if announced(gr, e.b2, e.x2, e.c, e.r).0 != e.a2.0 {
+    if e.a2.0 != announced(gr, e.b2, e.x2, e.c, e.r).0 {
         return CheckAnswer::Refused(10);
     }
     CheckAnswer::Passed

@@ -4,16 +4,23 @@ ghost use Prim.Native.Nat.{_+_, _*_, _<_, _≤_};
 ghost use lib.ListN.{length, take};
 ghost use Rattle.words.specs.Lists.{map, all};
 ghost use Rattle.sharing.specs.Round.{members};
-ghost use Rattle.dealing.specs.Records.{isKeyRecord, isLineRecord, isOpeningRecord, isShareRecord};
+ghost use Rattle.dealing.specs.Records.{isSpare, isKeyRecord, isLineRecord, isOpeningRecord, isShareRecord};
 ghost use Rattle.dealing.specs.Records.{recordAt, wordOf, isKey, isSecretKey};
 
 use group::{Element, Exponent, Group, is_element};
 use words::Record;
 
+// Words 4 to 7 are spare.
+fn is_spare(r: Record) -> bool
+    ensures { λ a. ⌜ a ≡ isSpare r ⌝ }
+{
+    r.w4 == 0 && r.w5 == 0 && r.w6 == 0 && r.w7 == 0
+}
+
 pub fn is_key_record(r: Record) -> bool
     ensures { λ a. ⌜ a ≡ isKeyRecord r ⌝ }
 {
-    r.w0 == 1 && r.w1 == 0 && r.w4 == 0 && r.w5 == 0 && r.w6 == 0 && r.w7 == 0
+    r.w0 == 1 && r.w1 == 0 && is_spare(r)
 }
 
 pub fn is_line_record(r: Record) -> bool
@@ -25,7 +32,7 @@ pub fn is_line_record(r: Record) -> bool
 pub fn is_opening_record(r: Record) -> bool
     ensures { λ a. ⌜ a ≡ isOpeningRecord r ⌝ }
 {
-    r.w0 == 3 && r.w2 == 0 && r.w4 == 0 && r.w5 == 0 && r.w6 == 0 && r.w7 == 0
+    r.w0 == 3 && r.w2 == 0 && is_spare(r)
 }
 
 pub fn is_share_record(r: Record) -> bool
