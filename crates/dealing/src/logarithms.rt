@@ -6,10 +6,14 @@ ghost use Rattle.words.specs.Lists.{map};
 ghost use Rattle.sharing.specs.Round.{members};
 ghost use Rattle.sharing.specs.Answer.{checkOutcomeOf};
 ghost use Rattle.dealing.specs.Equality.{announced, announcedOf, response, equalityOutcome};
-
 use crate::Equality;
-use group::{Element, Exponent, Group, GroupAnswer};
-use group::{all_elements, all_exponents, group_of};
+use group::Element;
+use group::Exponent;
+use group::Group;
+use group::GroupAnswer;
+use group::all_elements;
+use group::all_exponents;
+use group::group_of;
 use sharing::CheckAnswer;
 
 // The announcement that the challenge c and the response r give for the element x to the base b.
@@ -30,7 +34,13 @@ pub fn announcements(gr: Group, bs: &[u32], xs: &[u32], cs: &[u32], rs: &[u32]) 
     let mut a = [0u32; 31];
     let mut i = 0;
     while i < xs.len() {
-        a[i] = announced(gr, Element(bs[i]), Element(xs[i]), Exponent(cs[i]), Exponent(rs[i])).0;
+        a[i] = announced(
+            gr,
+            Element(bs[i]),
+            Element(xs[i]),
+            Exponent(cs[i]),
+            Exponent(rs[i]),
+        ).0;
         i += 1;
     }
     a

@@ -10,8 +10,9 @@ ghost use Rattle.sharing.specs.Round.{groupIn, roundChecks};
 ghost use Rattle.dealing.specs.Records.{entry};
 ghost use Rattle.dealing.specs.Message.{message, exponentOf, challengeOf};
 ghost use Rattle.dealing.specs.Message.{dealingMessage, shareMessage, coefficientMessage, checkPolynomial};
-
-use group::{Element, Exponent, Group};
+use group::Element;
+use group::Exponent;
+use group::Group;
 use sha256::DigestAnswer;
 use sharing::Round;
 
@@ -61,7 +62,15 @@ fn put_four(m: &mut [u8], at: usize, a: u32, b: u32, c: u32, d: u32)
 
 // The challenge of a dealing: over v, Y, a1 and a2 of every line.
 // Internal: callers ensure a proper round and its group, a dealer at most n, and n figures in each list.
-pub fn dealing_challenge(gr: Group, rd: Round, d: u32, vs: &[u32], es: &[u32], a1s: &[u32], a2s: &[u32]) -> Exponent
+pub fn dealing_challenge(
+    gr: Group,
+    rd: Round,
+    d: u32,
+    vs: &[u32],
+    es: &[u32],
+    a1s: &[u32],
+    a2s: &[u32],
+) -> Exponent
     requires { ⌜ (Met (roundChecks rd)) × (gr ≡ groupIn rd) × (d ≤ rd .n)
         × (length (now vs) ≡ rd .n) × (length (now es) ≡ rd .n) × (length (now a1s) ≡ rd .n) × (length (now a2s) ≡ rd .n) ⌝ }
     ensures { λ r. ⌜ r .0 ≡ challengeOf rd (dealingMessage rd d (entry (now (vs .entry))) (entry (now (es .entry))) (entry (now (a1s .entry))) (entry (now (a2s .entry)))) ⌝ }
@@ -79,7 +88,17 @@ pub fn dealing_challenge(gr: Group, rd: Round, d: u32, vs: &[u32], es: &[u32], a
 
 // The challenge of an opened share of member i: over y, Y, S, a1 and a2.
 // Internal: callers ensure a proper round and its group, and a dealer and a member at most n.
-pub fn share_challenge(gr: Group, rd: Round, d: u32, i: u32, y: Element, e: Element, s: Element, a1: Element, a2: Element) -> Exponent
+pub fn share_challenge(
+    gr: Group,
+    rd: Round,
+    d: u32,
+    i: u32,
+    y: Element,
+    e: Element,
+    s: Element,
+    a1: Element,
+    a2: Element,
+) -> Exponent
     requires { ⌜ (Met (roundChecks rd)) × (gr ≡ groupIn rd) × (d ≤ rd .n) × (i ≤ rd .n) ⌝ }
     ensures { λ r. ⌜ r .0 ≡ challengeOf rd (shareMessage rd d i (y .0) (e .0) (s .0) (a1 .0) (a2 .0)) ⌝ }
 {

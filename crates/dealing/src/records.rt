@@ -6,8 +6,10 @@ ghost use Rattle.words.specs.Lists.{map, all};
 ghost use Rattle.sharing.specs.Round.{members};
 ghost use Rattle.dealing.specs.Records.{isSpare, isKeyRecord, isLineRecord, isOpeningRecord, isShareRecord};
 ghost use Rattle.dealing.specs.Records.{recordAt, wordOf, isKey, isSecretKey};
-
-use group::{Element, Exponent, Group, is_element};
+use group::Element;
+use group::Exponent;
+use group::Group;
+use group::is_element;
 use words::Record;
 
 // Words 4 to 7 are spare.

@@ -123,7 +123,7 @@ returns c =
     let f = words (a .vs .now) (a .es .now) in
     let e : l .i ≡ a .rd .n = omega arith in
     let t = behind-byte 0x50 (a .rd) (a .d) (6 + 8 * l .i) (bytesOver f (members (l .i))) _ (h .head .ensures) (omega (arith, h .head .kept .0))
-            (a .k) (l .inv .3) (omega (arith, members-length f 8 (λ j. refl) (l .i))) in
+    (a .k) (l .inv .3) (omega (arith, members-length f 8 (λ j. refl) (l .i))) in
     c .challenge .ensures
     ∙ (λ j. exponentOf (s .pre .1 j) (hash (t j)))
     ∙ ap (λ (n : ℕ). challengeOf (a .rd) (message 0x50 (a .rd) (a .d) (a .k ∷ bytesOver f (members n)))) e

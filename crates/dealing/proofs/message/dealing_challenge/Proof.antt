@@ -129,7 +129,7 @@ returns c =
     let f = words (a .vs .now) (a .es .now) (a .a1s .now) (a .a2s .now) in
     let e : l .i ≡ a .rd .n = omega arith in
     let t = behind-head 0x44 (a .rd) (a .d) (5 + 16 * l .i) (bytesOver f (members (l .i))) _ (h .head .ensures) (omega (arith, h .head .kept .0))
-            (l .inv .3) (omega (arith, members-length f 16 (λ j. refl) (l .i))) in
+    (l .inv .3) (omega (arith, members-length f 16 (λ j. refl) (l .i))) in
     c .challenge .ensures
     ∙ (λ j. exponentOf (s .pre .1 j) (hash (t j)))
     ∙ ap (λ (n : ℕ). challengeOf (a .rd) (message 0x44 (a .rd) (a .d) (bytesOver f (members n)))) e

@@ -61,9 +61,9 @@ returns c =
     let l = set (h .head .last .0) 5 (a .i) in
     let n : length (h .head .last .0) ≡ 26 = h .head .kept .0 ∙ refl in
     let p = put-words 6 22 ws us l refl (omega (arith, length-set (h .head .last .0) 5 (a .i))) (q .put-four .ensures)
-            (w .put-word .ensures ∙ ap (λ (t : List ℕ). putAt 22 t (q .put-four .last .0)) (words-one (a .a2 .0))) in
+    (w .put-word .ensures ∙ ap (λ (t : List ℕ). putAt 22 t (q .put-four .last .0)) (words-one (a .a2 .0))) in
     let t = behind-byte 0x53 (a .rd) (a .d) 26 (wordsBytes (a .y .0 ∷ a .e .0 ∷ a .s .0 ∷ a .a1 .0 ∷ us)) _ (h .head .ensures) (omega arith) (a .i) p
-            (omega (arith, words-length (a .y .0 ∷ a .e .0 ∷ a .s .0 ∷ a .a1 .0 ∷ us))) in
+    (omega (arith, words-length (a .y .0 ∷ a .e .0 ∷ a .s .0 ∷ a .a1 .0 ∷ us))) in
     c .challenge .ensures
     ∙ (λ j. exponentOf (s .pre .1 j) (hash ((sym (take-all 26 (w .put-word .last .0) (omega arith)) ∙ t) j)))
 
