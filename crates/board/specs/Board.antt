@@ -59,13 +59,16 @@ keyIn b m = recordAt b (keyRecord b m) .w3
 abbrev pub keysIn : ℕ → List ℕ → List ℕ
 keysIn n b = map (keyIn b) (members n)
 
--- ---- what is refused before verdicts: 1, 2; 3; record by record 4 and 5; 12 a key missing; 6 a bad key
-abbrev pub boardChecks : Round → List ℕ → List Check
-boardChecks R b =
-    roundChecks R ++ (formChecks (R .n) b ++
-    (12 unless all (λ m. ltb (keyRecord b m) (recordsIn b)) (members (R .n))
+-- 12 a key missing, 6 a bad key
+abbrev pub keyChecks : Round → List ℕ → List Check
+keyChecks R b =
+    12 unless all (λ m. ltb (keyRecord b m) (recordsIn b)) (members (R .n))
     ∷ 6 unless all (isKey (groupIn R)) (keysIn (R .n) b)
-    ∷ []))
+    ∷ []
+
+-- ---- what is refused before verdicts: 1, 2; 3; record by record 4 and 5; 12 and 6
+abbrev pub boardChecks : Round → List ℕ → List Check
+boardChecks R b = roundChecks R ++ (formChecks (R .n) b ++ keyChecks R b)
 
 -- ---- a dealer's lines
 unfoldable pub isLineBy : List ℕ → ℕ → ℕ → Bool

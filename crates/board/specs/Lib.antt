@@ -5,3 +5,4 @@ pub mod Verdict
 pub mod Draw
 pub mod Text
 pub mod Claims
+pub mod Demand3

@@ -1,6 +1,15 @@
--- Proofs of what specs/Claims.antt states, and the laws that they share.
+-- Proofs of what specs/Claims.antt states, and the laws that they and the functions' proofs share.
 pub mod Conjunctions
 pub mod Filled
+pub mod Columns
 pub mod Buffers
 pub mod Digests
-pub mod Columns
+pub mod Members
+pub mod Posted
+pub mod Challenges
+pub mod Equal
+pub mod Judged
+pub mod Written
+pub mod Keys
+pub mod Shares
+pub mod Recovered

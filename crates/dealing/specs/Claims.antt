@@ -1,14 +1,15 @@
 -- What is claimed of proofs, dealings and opened shares: demand 2 for all that is posted, and what it gives demand 3.
 use mathlib.Core.Path.{_≡_}
-use mathlib.Core.Bool.{Bool, true, false}
+use mathlib.Core.Bool.{true}
 use mathlib.Core.List.{List, [], _∷_}
 use mathlib.Core.Logic.{_↔_}
-use Prim.Native.Nat.{ℕ, _-_, _*_, _<_, _≤_}
+use Prim.Native.Nat.{ℕ, _*_, _<_, _≤_}
 use lib.ListN.{length, getD}
-use Rattle.words.specs.Lists.{All, map, all}
-use Rattle.words.specs.Checks.{value, Met}
+use Rattle.words.specs.Lists.{All, map}
+use Rattle.words.specs.Checks.{value, refused, Met, lentAfter}
 use Rattle.words.specs.Bytes.{recordIn}
 use Rattle.words.specs.declared.Record.{Record}
+use Rattle.field.specs.Polynomial.{valueAt}
 use Rattle.group.specs.Power.{pow}
 use Rattle.group.specs.Table.{isGroup, groupOf}
 use Rattle.group.specs.Element.{isElement}
@@ -19,8 +20,8 @@ use Rattle.sharing.specs.declared.Round.{Round}
 use Rattle.dealing.specs.Records.{isLineRecord, isShareRecord, entry, recordOf, isKey}
 use Rattle.dealing.specs.Message.{challengeOf, checkPolynomial}
 use Rattle.dealing.specs.Equality.{announced, response, equalityOutcome}
-use Rattle.dealing.specs.Dealing.{writeDealingOutcome, writtenDealing, judgeDealingOutcome, vIn, YIn, rIn, cIn, vsIn, recomputed}
-use Rattle.dealing.specs.Share.{keyOf, shareOf, writeShareOutcome, writtenShare, judgeShareOutcome, shareRecomputed}
+use Rattle.dealing.specs.Dealing.{writeDealingChecks, writeDealingOutcome, writtenDealing, judgeDealingOutcome, vIn, YIn, rIn, cIn, vsIn, recomputed}
+use Rattle.dealing.specs.Share.{keyOf, shareOf, writeShareChecks, writeShareOutcome, writtenShare, judgeShareOutcome, shareRecomputed}
 use Rattle.dealing.specs.declared.Equality.{Equality}
 
 -- the only law of a challenge that anything above it uses
@@ -61,9 +62,9 @@ EqualityComplete =
     (k b1 b2 e w c : ℕ) → isGroup k ≡ true → isElement (groupOf k) b1 ≡ true → isElement (groupOf k) b2 ≡ true → c < groupOf k .q
     → equalityOutcome k (proofOf k b1 b2 e w c) ≡ value tt
 
--- ---- an accepted dealing
--- the line of member i: its form, its figures, and that its challenge is the one that all lines' equations give
-pub record Line (R : Round) (d : ℕ) (ys b : List ℕ) (i : ℕ) : Type 0 where
+-- ---- a posted dealing
+-- the line of member i: its form and its figures
+pub record Line (R : Round) (d : ℕ) (b : List ℕ) (i : ℕ) : Type 0 where
   pub kind : isLineRecord (recordOf b i) ≡ true
   pub dealer : recordOf b i .w1 ≡ d
   pub member : recordOf b i .w2 ≡ i
@@ -71,21 +72,42 @@ pub record Line (R : Round) (d : ℕ) (ys b : List ℕ) (i : ℕ) : Type 0 where
   pub Y-element : isElement (groupIn R) (YIn b i) ≡ true
   pub r-low : rIn b i < groupIn R .q
   pub c-low : cIn b i < groupIn R .q
-  pub challenge : cIn b i ≡ recomputed R d ys b
 
-pub record AcceptedDealing (R : Round) (d : ℕ) (ys b : List ℕ) : Type 0 where
+-- all that is asked of its figures one by one
+pub record PostedDealing (R : Round) (d : ℕ) (ys b : List ℕ) : Type 0 where
   pub round : Met (roundChecks R)
   pub dealer : (1 ≤ d) × (d ≤ R .n)
   pub keys-size : length ys ≡ R .n
   pub keys : All (λ y. isKey (groupIn R) y ≡ true) ys
   pub size : length b ≡ 32 * R .n
-  pub lines : (i : ℕ) → 1 ≤ i → i ≤ R .n → Line R d ys b i
-  pub degree : degreeProduct (groupIn R) (R .n) (vsIn (R .n) b) (checkPolynomial R d (vIn b) (YIn b)) ≡ 1
+  pub lines : (i : ℕ) → 1 ≤ i → i ≤ R .n → Line R d b i
+
+-- the equation of the degree check, over the judge's own check polynomial
+abbrev pub DegreeEquation : Round → ℕ → List ℕ → Type 0
+DegreeEquation R d b = degreeProduct (groupIn R) (R .n) (vsIn (R .n) b) (checkPolynomial R d (vIn b) (YIn b)) ≡ 1
+
+-- the equation of member i's line: its challenge is the one that the announcements of all lines give
+abbrev pub LineEquation : Round → ℕ → List ℕ → List ℕ → ℕ → Type 0
+LineEquation R d ys b i = cIn b i ≡ recomputed R d ys b
+
+pub record AcceptedDealing (R : Round) (d : ℕ) (ys b : List ℕ) : Type 0 where
+  pub posted : PostedDealing R d ys b
+  pub degree : DegreeEquation R d b
+  pub challenge : (i : ℕ) → 1 ≤ i → i ≤ R .n → LineEquation R d ys b i
 
 -- a dealing is accepted exactly if every equation between posted figures holds
 abbrev pub DealingExactly : Type 0
 DealingExactly = (R : Round) (d : ℕ) (ys b : List ℕ) → (judgeDealingOutcome R d ys b ≡ value tt) ↔ AcceptedDealing R d ys b
 
+-- where an equation fails, the number says which: 9 the degree check's, and else 10 a line's
+pub record EquationRefused (R : Round) (d : ℕ) (ys b : List ℕ) : Type 0 where
+  pub nine : (DegreeEquation R d b → ⊥) → judgeDealingOutcome R d ys b ≡ refused 9
+  pub ten : DegreeEquation R d b → (i : ℕ) → 1 ≤ i → i ≤ R .n → (LineEquation R d ys b i → ⊥) → judgeDealingOutcome R d ys b ≡ refused 10
+
+abbrev pub DealingRefused : Type 0
+DealingRefused = (R : Round) (d : ℕ) (ys b : List ℕ) → PostedDealing R d ys b → EquationRefused R d ys b
+
+-- ---- a written dealing
 -- what is written from proper figures is accepted with the same keys
 abbrev pub DealingComplete : Type 0
 DealingComplete =
@@ -97,6 +119,18 @@ abbrev pub WrittenCarried : Type 0
 WrittenCarried =
     (R : Round) (d : ℕ) (ys cs ws : List ℕ) → writeDealingOutcome R d ys cs ws (32 * R .n) ≡ value tt
     → Carries R cs (vsIn (R .n) (writtenDealing R d ys cs ws))
+
+-- the lent bytes are accepted where nothing is refused
+abbrev pub LentDealing : Type 0
+LentDealing =
+    (R : Round) (d : ℕ) (ys cs ws out : List ℕ) → writeDealingOutcome R d ys cs ws (length out) ≡ value tt
+    → judgeDealingOutcome R d ys (lentAfter (writeDealingChecks R d ys cs ws (length out)) (writtenDealing R d ys cs ws) out) ≡ value tt
+
+-- and stay as they were where a number is refused
+abbrev pub LentDealingKept : Type 0
+LentDealingKept =
+    (R : Round) (d : ℕ) (ys cs ws out : List ℕ) (k : ℕ) → writeDealingOutcome R d ys cs ws (length out) ≡ refused k
+    → lentAfter (writeDealingChecks R d ys cs ws (length out)) (writtenDealing R d ys cs ws) out ≡ out
 
 -- ---- an accepted share
 pub record AcceptedShare (R : Round) (d i y Y : ℕ) (b : List ℕ) (r : Record) : Type 0 where
@@ -126,6 +160,19 @@ ShareComplete =
     (R : Round) (d i Y x w : ℕ) → writeShareOutcome R d i Y x w 32 ≡ value tt
     → judgeShareOutcome R d i (keyOf (groupIn R) x) Y (writtenShare R d i Y x w) ≡ value (record { 0 = shareOf (groupIn R) Y x })
 
+-- the lent bytes are accepted where nothing is refused
+abbrev pub LentShare : Type 0
+LentShare =
+    (R : Round) (d i Y x w : ℕ) (out : List ℕ) → writeShareOutcome R d i Y x w (length out) ≡ value tt
+    → judgeShareOutcome R d i (keyOf (groupIn R) x) Y (lentAfter (writeShareChecks R d i Y x w (length out)) (writtenShare R d i Y x w) out)
+    ≡ value (record { 0 = shareOf (groupIn R) Y x })
+
+-- and stay as they were where a number is refused
+abbrev pub LentShareKept : Type 0
+LentShareKept =
+    (R : Round) (d i Y x w : ℕ) (out : List ℕ) (k : ℕ) → writeShareOutcome R d i Y x w (length out) ≡ refused k
+    → lentAfter (writeShareChecks R d i Y x w (length out)) (writtenShare R d i Y x w) out ≡ out
+
 -- the share of Y = y^e is h^e: with e the polynomial's value it is true
 abbrev pub ShareTrue : Type 0
 ShareTrue =
@@ -149,7 +196,18 @@ AcceptedUncarried =
     → AgreeOff (place R (vsIn (R .n) b)) cs (checkPolynomial R d (vIn b) (YIn b))
     → getD cs (place R (vsIn (R .n) b)) 0 ≡ getD (checkPolynomial R d (vIn b) (YIn b)) (place R (vsIn (R .n) b)) 0
 
--- honest delegates: shares that t or more members write from their lines of a written dealing recover its secret
+-- honest delegates: from his line of a written dealing and his secret key a member may write a share. It is accepted with his key
+-- and the line's Y, and answers h to the polynomial's value at him
+abbrev pub DealtShareAccepted : Type 0
+DealtShareAccepted =
+    (R : Round) (d : ℕ) (ys cs ws : List ℕ) → writeDealingOutcome R d ys cs ws (32 * R .n) ≡ value tt
+    → (i x w : ℕ) → 1 ≤ i → i ≤ R .n → 1 ≤ x → x < groupIn R .q → w < groupIn R .q → entry ys i ≡ keyOf (groupIn R) x
+    → (writeShareOutcome R d i (YIn (writtenDealing R d ys cs ws) i) x w 32 ≡ value tt)
+    × (judgeShareOutcome R d i (entry ys i) (YIn (writtenDealing R d ys cs ws) i)
+    (writtenShare R d i (YIn (writtenDealing R d ys cs ws) i) x w)
+    ≡ value (record { 0 = pow (groupIn R .p) (groupIn R .h .0) (valueAt (groupIn R .q) cs i) }))
+
+-- shares that t or more members write from their lines of a written dealing recover its secret
 abbrev pub WrittenRecovered : Type 0
 WrittenRecovered =
     (R : Round) (d : ℕ) (ys cs ws : List ℕ) → writeDealingOutcome R d ys cs ws (32 * R .n) ≡ value tt

@@ -17,20 +17,20 @@ use Rattle.group.specs.declared.Group.{Group}
 use Rattle.group.proofs.Powers.{pow-below, one-power, pow-sum, pow-product, pow-multiple, pow-period, product-of-powers}
 
 -- ---- the tests
-pub record Member (G : Group) (v : ℕ) : Type 0 where
+pub record ElementFacts (G : Group) (v : ℕ) : Type 0 where
   pub positive : 1 ≤ v
   pub low : v < G .p
   pub order : pow (G .p) v (G .q) ≡ 1
 
 module _ (G : Group) (v : ℕ) where
-  pub element-true : isElement G v ≡ true → Member G v
+  pub element-true : isElement G v ≡ true → ElementFacts G v
   unfolding isElement
   element-true e =
       let a = and-true (leb 1 v) (ltb v (G .p) && eqb (pow (G .p) v (G .q)) 1) e in
       let b = and-true (ltb v (G .p)) (eqb (pow (G .p) v (G .q)) 1) (a .1) in
       record { positive = leb-true 1 v (a .0); low = ltb-true v (G .p) (b .0); order = eqb-true (pow (G .p) v (G .q)) 1 (b .1) }
 
-  pub true-element : Member G v → isElement G v ≡ true
+  pub true-element : ElementFacts G v → isElement G v ≡ true
   unfolding isElement
   true-element m =
       true-and (leb 1 v) _ (le-leb 1 v (m .positive))

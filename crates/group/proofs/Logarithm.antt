@@ -14,9 +14,9 @@ use Rattle.words.specs.Lists.{All, Distinct, Below}
 use Rattle.words.proofs.Lists.{All-to}
 use Rattle.field.specs.Residue.{add, mul, neg, inv}
 use Rattle.field.specs.Polynomial.{valueAt}
-use Rattle.field.specs.Claims.{RootBound}
 use Rattle.field.proofs.Modular.{add-comm, add-assoc, add-zero, add-neg, add-below, mul-comm, mul-below, neg-below}
 use Rattle.field.proofs.Inverses.{mul-inv}
+use Rattle.field.proofs.Theorems.{root-bound}
 use Rattle.group.specs.Power.{pow}
 use Rattle.group.specs.Element.{isElement, Generator, Proper}
 use Rattle.group.specs.Claims.{SamePower, ElementsArePowers, Logarithm}
@@ -116,7 +116,7 @@ pub same-power : SamePower
 same-power G P b B a e = (same-exponent G P b B a e, period G P b B a e)
 
 -- ---- the powers of a generator, and an element beside them
-module _ (root-bound : RootBound) (G : Group) (P : Proper G) (b : ℕ) (B : Generator G b) where
+module _ (G : Group) (P : Proper G) (b : ℕ) (B : Generator G b) where
   -- the powers with the exponents below k
   abbrev powers : ℕ → List ℕ
   powers zero = []
@@ -181,5 +181,5 @@ module _ (root-bound : RootBound) (G : Group) (P : Proper G) (b : ℕ) (B : Gene
   power-is-element : (v : ℕ) → Logarithm G b v → isElement G v ≡ true
   power-is-element v L = rw (L .power) (power-element G P b (L .log) (generator-element G P b B))
 
-pub elements-are-powers : RootBound → ElementsArePowers
-elements-are-powers r G P b B v = (logarithm r G P b B v, power-is-element r G P b B v)
+pub elements-are-powers : ElementsArePowers
+elements-are-powers G P b B v = (logarithm G P b B v, power-is-element G P b B v)

@@ -20,17 +20,17 @@ one-pow zero = pow-zero 1
 one-pow (suc e) = rw (pow-suc, one-pow e)
 
 pow-mul : (b i j : ℕ) → b ^ (i * j) ≡ (b ^ i) ^ j
-pow-mul b i zero = rw (mul-zero, pow-zero, pow-zero)
+pow-mul b i zero = simp (mul-zero, pow-zero)
 pow-mul b i (suc j) = rw (mul-suc, pow-add, pow-suc, pow-mul b i j)
 
 mul-pow : (a b e : ℕ) → (a * b) ^ e ≡ a ^ e * b ^ e
-mul-pow a b zero = rw (pow-zero, pow-zero, pow-zero)
-mul-pow a b (suc e) = rw (pow-suc, pow-suc, pow-suc, mul-pow a b e, mul-mul-mul-comm)
+mul-pow a b zero = simp pow-zero
+mul-pow a b (suc e) = simp pow-suc (rw (mul-pow a b e, mul-mul-mul-comm (a ^ e) (b ^ e)))
 
 -- a base may be reduced before the power is
 pow-mod : (p b e : ℕ) → (b % p) ^ e % p ≡ b ^ e % p
-pow-mod p b zero = rw (pow-zero, pow-zero)
-pow-mod p b (suc e) = rw (pow-suc, pow-suc, mul-mod-right, ← mul-mod-left, pow-mod p b e, mul-mod-left)
+pow-mod p b zero = simp pow-zero
+pow-mod p b (suc e) = simp pow-suc (rw (mul-mod-right, ← mul-mod-left ((b % p) ^ e), pow-mod p b e, mul-mod-left))
 
 -- ---- powers modulo p
 module _ (p : ℕ) where

@@ -9,7 +9,7 @@ use Rattle.words.proofs.Tests.{and-true}
 use Rattle.field.specs.Prime.{trialDivision}
 use Rattle.field.proofs.Primality.{trial-division}
 use Rattle.group.specs.Power.{halvesPower}
-use Rattle.group.specs.Table.{isGroup, group, groupOf}
+use Rattle.group.specs.Table.{isGroup, groupOf}
 use Rattle.group.specs.Element.{Generator, Proper}
 use Rattle.group.specs.Claims.{TableProper}
 use Rattle.group.specs.declared.Group.{Group}
@@ -30,35 +30,41 @@ generator G k b h l e =
     }
 
 -- i and j odd numbers are tried as divisors of p and q
-proper : (p q g h i j k : ℕ) → T (trialDivision i p) → T (trialDivision j q) → q < 2 ^ k → generates k p q g ≡ true → generates k p q h ≡ true
-    → Proper (group p q g h)
-proper p q g h i j k P Q l e f =
-    let a = trial-division i p P in
+proper : (G : Group) (i j k : ℕ) → T (trialDivision i (G .p)) → T (trialDivision j (G .q)) → G .q < 2 ^ k
+    → generates k (G .p) (G .q) (G .g .0) ≡ true → generates k (G .p) (G .q) (G .h .0) ≡ true → Proper G
+proper G i j k P Q l g h =
+    let a = trial-division i (G .p) P in
     record {
       prime-p = a;
-      prime-q = trial-division j q Q;
-      g-generates = generator (group p q g h) k g (a .above-one) l e;
-      h-generates = generator (group p q g h) k h (a .above-one) l f;
+      prime-q = trial-division j (G .q) Q;
+      g-generates = generator G k (G .g .0) (a .above-one) l g;
+      h-generates = generator G k (G .h .0) (a .above-one) l h;
     }
 
--- what holds of each group of the table holds of the group of any number
-each : (P : Group → Type 0) → P (group 23 11 4 9) → P (group 2039 1019 4 9) → P (group 4294967087 2147483543 4 9) → (k : ℕ) → P (groupOf k)
+-- what holds of the groups of the table holds of the group of any number
+each : (P : Group → Type 0) → P (groupOf 1) → P (groupOf 2) → P (groupOf 3) → (k : ℕ) → P (groupOf k)
 unfolding groupOf
 each P a b c k = go (eqb k 1) (eqb k 2)
   where
-    go : (s t : Bool) → P (pick s (group 23 11 4 9) (pick t (group 2039 1019 4 9) (group 4294967087 2147483543 4 9)))
+    go : (s t : Bool) → P (pick s (groupOf 1) (pick t (groupOf 2) (groupOf 3)))
     go true t = a
     go false true = b
     go false false = c
 
 pub table-proper : TableProper
+unfolding groupOf
 table-proper k e =
     each Proper
-    (proper 23 11 4 9 1 1 4 tt tt (lit< tt) refl refl)
-    (proper 2039 1019 4 9 22 15 10 tt tt (lit< tt) refl refl)
-    (proper 4294967087 2147483543 4 9 32767 23170 31 tt tt (lit< tt) refl refl)
+    (proper (groupOf 1) 1 1 4 tt tt (lit< tt) refl refl)
+    (proper (groupOf 2) 22 15 10 tt tt (lit< tt) refl refl)
+    (proper (groupOf 3) 32767 23170 31 tt tt (lit< tt) refl refl)
     k
 
--- p, and with it each element, is a word
+-- p and q are words, and with them each element and each exponent
 pub table-below : (k : ℕ) → isGroup k ≡ true → groupOf k .p < 2 ^ 32
+unfolding groupOf
 table-below k e = each (λ G. G .p < 2 ^ 32) (lit< tt) (lit< tt) (lit< tt) k
+
+pub order-below : (k : ℕ) → isGroup k ≡ true → groupOf k .q < 2 ^ 32
+unfolding groupOf
+order-below k e = each (λ G. G .q < 2 ^ 32) (lit< tt) (lit< tt) (lit< tt) k

@@ -6,7 +6,6 @@ ghost use Rattle.group.specs.Answer.{elementOutcomeOf, powerOutcome};
 mod arithmetic;
 mod membership;
 
-pub use arithmetic::raise;
 pub use membership::all_elements;
 pub use membership::all_exponents;
 pub use membership::is_element;

@@ -7,6 +7,7 @@ use crate::Exponent;
 use crate::Group;
 use crate::arithmetic::raise;
 
+// Whether v is in 1 to p - 1 and its power q is 1.
 pub fn is_element(gr: Group, v: Element) -> bool
     ensures { λ r. ⌜ r ≡ isElement gr (v .0) ⌝ }
 {
@@ -21,12 +22,14 @@ pub fn is_element(gr: Group, v: Element) -> bool
     raise(p, v, Exponent(gr.q)).0 == 1
 }
 
+// Whether e is below q.
 pub fn is_exponent(gr: Group, e: Exponent) -> bool
     ensures { λ r. ⌜ r ≡ isExponent gr (e .0) ⌝ }
 {
     e.0 < gr.q
 }
 
+// Whether each number is an element.
 pub fn all_elements(gr: Group, vs: &[u32]) -> bool
     ensures { λ r. ⌜ r ≡ all (isElement gr) (now (vs .entry)) ⌝ }
 {
@@ -40,6 +43,7 @@ pub fn all_elements(gr: Group, vs: &[u32]) -> bool
     true
 }
 
+// Whether each number is an exponent below q.
 pub fn all_exponents(gr: Group, es: &[u32]) -> bool
     ensures { λ r. ⌜ r ≡ all (isExponent gr) (now (es .entry)) ⌝ }
 {

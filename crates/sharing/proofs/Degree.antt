@@ -55,13 +55,13 @@ module _ (R : Round) (vs ds : List ℕ) where
     sizes : eqb (length vs) (R .n) && eqb (length ds) (R .n - R .t) ≡ true
     sizes = true-and (eqb (length vs) (R .n)) _ (eq-eqb (length vs) (R .n) (C .size)) (eq-eqb (length ds) (R .n - R .t) (D .size))
 
-    product-passes : degreeProduct (groupIn R) (R .n) vs ds ≡ 1 → Passes R vs ds
+    pub product-passes : degreeProduct (groupIn R) (R .n) vs ds ≡ 1 → Passes R vs ds
     unfolding degreeOutcome
     product-passes e =
         value-exactly Unit (degreeChecks R vs ds) tt .1
         (m .0, (m .1 .0, (sizes, (C .elements, (low-exponents (groupIn R) ds (D .low), (eq-eqb _ 1 e, tt))))))
 
-    passes-product : Passes R vs ds → degreeProduct (groupIn R) (R .n) vs ds ≡ 1
+    pub passes-product : Passes R vs ds → degreeProduct (groupIn R) (R .n) vs ds ≡ 1
     unfolding degreeOutcome
     passes-product e = eqb-true _ 1 (value-exactly Unit (degreeChecks R vs ds) tt .0 e .1 .1 .1 .1 .1 .0)
 

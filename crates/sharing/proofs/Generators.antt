@@ -1,4 +1,5 @@
--- Products of powers of a generator b, by their exponents: the power of each sum. All hold of any proper group, for g and for h.
+-- Powers of a generator b, in any proper group: a product of powers is the power of the sum of their exponents, only the exponent 0 gives 1,
+-- powers are elements, and elements are powers. All hold of g and of h.
 use mathlib.Core.Path.{_≡_, refl, sym, ap, _∙_}
 use mathlib.Core.Bool.{true}
 use mathlib.Core.List.{List, [], _∷_}
@@ -10,7 +11,6 @@ use Rattle.words.proofs.Lists.{All-each, map-all}
 use Rattle.words.proofs.Tests.{all-true, true-all}
 use Rattle.field.specs.Residue.{mul, residueOps}
 use Rattle.field.specs.Polynomial.{dot, valueAt}
-use Rattle.field.proofs.Theorems.{root-bound}
 use Rattle.group.specs.Power.{pow}
 use Rattle.group.specs.Element.{isElement, Generator, Proper}
 use Rattle.group.specs.declared.Group.{Group}
@@ -60,6 +60,6 @@ module _ (G : Group) (P : Proper G) (b : ℕ) (B : Generator G b) where
       of : (vs : List ℕ) → All (λ v. isElement G v ≡ true) vs → (es : List ℕ) × Exponents G b vs es
       of [] h = ([], record { low = tt; each = refl })
       of (v ∷ vs) h =
-          let l = elements-are-powers root-bound G P b B v .0 (h .0) in
+          let l = elements-are-powers G P b B v .0 (h .0) in
           let r = of vs (h .1) in
           (l .log ∷ r .0, record { low = (l .low, r .1 .low); each = λ j. l .power j ∷ r .1 .each j })

@@ -64,7 +64,7 @@ unit-length zero (suc m) = ap suc (length-replicate m 0)
 unit-length (suc k) (suc m) = ap suc (unit-length k m)
 
 -- ---- a value or none
-is-value : (o : Outcome Unit) → isValue o ≡ true → o ≡ value tt
+pub is-value : (o : Outcome Unit) → isValue o ≡ true → o ≡ value tt
 is-value (value a) e = refl
 is-value (refused k) e = absurd (false-true e)
 

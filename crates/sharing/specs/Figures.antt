@@ -26,18 +26,18 @@ pub record FirstPlace (vs : List ℕ) : Type 0 where
   pub unit-refused : degreeOutcome small vs (1 ∷ 0 ∷ []) ≡ refused 9
 
 -- the commitments of the exponents 0, 7, 1, 0 are caught by the first place only: the unit of the last passes
-abbrev pub exponents0710 : List ℕ
-exponents0710 = map (pow 23 4) (0 ∷ 7 ∷ 1 ∷ 0 ∷ [])
+abbrev pub firstOnly : List ℕ
+firstOnly = map (pow 23 4) (0 ∷ 7 ∷ 1 ∷ 0 ∷ [])
 
-abbrev pub CaughtByFirst : Type 0
-CaughtByFirst = FirstPlace exponents0710 × Passes small exponents0710 (0 ∷ 1 ∷ [])
+abbrev pub FirstOnlyFigures : Type 0
+FirstOnlyFigures = FirstPlace firstOnly × Passes small firstOnly (0 ∷ 1 ∷ [])
 
 -- with the third of 9, 16, 8, 4 changed to 9, check polynomial 1 gives 12, and 8 + the member number gives 1 and passes
 abbrev pub thirdChanged : List ℕ
 thirdChanged = 9 ∷ 16 ∷ 9 ∷ 4 ∷ []
 
-abbrev pub ThirdChanged : Type 0
-ThirdChanged =
+abbrev pub ThirdChangedFigures : Type 0
+ThirdChangedFigures =
     FirstPlace thirdChanged
     × (degreeProduct (groupIn small) 4 thirdChanged (1 ∷ 0 ∷ []) ≡ 12)
     × (degreeProduct (groupIn small) 4 thirdChanged (8 ∷ 1 ∷ []) ≡ 1)

@@ -1,8 +1,8 @@
 // Cases of the power. The arguments are group, base and exponent.
 use crate::print;
 use group::Element;
-use group::Exponent;
 use group::ElementAnswer;
+use group::Exponent;
 use words::Record;
 
 pub fn run(case: Record) -> bool {

@@ -9,7 +9,7 @@ use native.Mathlib.Omega.{arith}
 use borrow.Author.Tests.{ltb-true}
 use lib.Dec.{ltb}
 use Rattle.words.specs.Lists.{all}
-use Rattle.words.specs.Checks.{Check, value, refused, refusal, outcome, Met, FirstUnmet, Numbered}
+use Rattle.words.specs.Checks.{Check, value, refused, refusal, outcome, Met, FirstUnmet, Numbered, lentAfter}
 use Rattle.words.specs.Claims.{ValueExactly, RefusedExactly, NoneExactly, FirstExactly}
 use Rattle.words.proofs.Lists.{All-to}
 use Rattle.words.proofs.Tests.{all-true, pick-true, pick-false}
@@ -119,3 +119,17 @@ module _ {A : Type 0} (cs : List Check) (a : A) where
 -- of checks that are written out, it computes that no number is 0
 pub numbered : (cs : List Check) → all (λ c. ltb 0 (c .number)) cs ≡ true → Numbered cs
 numbered cs e = All-to cs (λ c s. ltb-true 0 (c .number) s) (all-true (λ c. ltb 0 (c .number)) cs e)
+
+-- ---- a lent buffer: written where every check is met, else as it was
+module _ {A : Type 0} where
+  pub lent-met : (cs : List Check) (new old : A) → Met cs → lentAfter cs new old ≡ new
+  lent-met [] new old m = refl
+  lent-met (c ∷ cs) new old m = pick-true (c .met) (lentAfter cs new old) old (m .0) ∙ lent-met cs new old (m .1)
+
+  pub lent-kept : (cs : List Check) (new old : A) (k : ℕ) → FirstUnmet k cs → lentAfter cs new old ≡ old
+  lent-kept [] new old k u = absurd u
+  lent-kept (c ∷ cs) new old k u =
+      ⊎-elim
+      (λ w. pick-false (c .met) (lentAfter cs new old) old (w .0))
+      (λ w. pick-true (c .met) (lentAfter cs new old) old (w .0) ∙ lent-kept cs new old k (w .1))
+      u

@@ -1,0 +1,9 @@
+-- Proofs of what specs/Claims.antt and specs/Demand3.antt state, and the laws that the code's proofs share.
+pub mod Searches
+pub mod Order
+pub mod KeyRecords
+pub mod LineRun
+pub mod VerdictCases
+pub mod Endings
+pub mod TwoBoards
+pub mod Demand3

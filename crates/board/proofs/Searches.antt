@@ -1,0 +1,105 @@
+-- Laws of searches, filters and ascending lists, by induction over the numbers searched.
+use mathlib.Core.Path.{_≡_, refl, sym, ap, _∙_}
+use mathlib.Core.Bool.{Bool, true, false}
+use mathlib.Core.List.{List, [], _∷_}
+use mathlib.Core.Logic.{⊎-elim}
+use Prim.Native.Nat.{ℕ, zero, suc, _+_, _-_, _<_, _≤_}
+use native.Mathlib.Nat.{eq-or-lt-of-le}
+use native.Mathlib.Decide.{decLe}
+use native.Mathlib.Omega.{arith}
+use lib.ListN.{take}
+use Rattle.words.specs.Choice.{pick}
+use Rattle.words.specs.Lists.{All, Distinct, map, upFrom}
+use Rattle.words.proofs.Lists.{All-to, map-all, up-within}
+use Rattle.words.proofs.Tests.{false-true}
+use Rattle.board.specs.Search.{first, filter}
+use Rattle.board.specs.Claims.{Ascending}
+
+-- ---- where a search of the m numbers from i on ends
+pub record First (f : ℕ → Bool) (i m r : ℕ) : Type 0 where
+  pub from : i ≤ r
+  pub upto : r ≤ i + m
+  pub before : (j : ℕ) → i ≤ j → j < r → f j ≡ false
+  pub here : r < i + m → f r ≡ true
+
+pub first-is : (f : ℕ → Bool) (i m : ℕ) → First f i m (first f i m)
+first-is f i zero = record { from = omega arith; upto = omega arith; before = λ j h l. absurd (omega arith); here = λ h. absurd (omega arith) }
+first-is f i (suc m) = by (f i) refl (first-is f (suc i) m)
+  where
+    by : (b : Bool) → f i ≡ b → First f (suc i) m (first f (suc i) m) → First f i (suc m) (pick b i (first f (suc i) m))
+    by true e r = record { from = omega arith; upto = omega arith; before = λ j h l. absurd (omega arith); here = λ h. e }
+    by false e r =
+        record {
+          from = omega (arith, r .from);
+          upto = omega (arith, r .upto);
+          before = λ j h l. ⊎-elim (λ w. ap f (sym w) ∙ e) (λ w. r .before j w l) (eq-or-lt-of-le h);
+          here = λ h. r .here (omega arith);
+        }
+
+-- it does not go past a number that passes
+pub first-low : (f : ℕ → Bool) (i m j : ℕ) → i ≤ j → f j ≡ true → first f i m ≤ j
+first-low f i m j h e = elim (decLe (first f i m) j) [
+  | yes w ↦ w
+  | no w ↦ absurd (false-true (sym (first-is f i m .before j h (omega arith)) ∙ e))
+]
+
+-- ---- filters
+pub filter-all : (f : ℕ → Bool) (P : ℕ → Type 0) (xs : List ℕ) → All P xs → All (λ x. P x × (f x ≡ true)) (filter f xs)
+filter-all f P [] h = tt
+filter-all f P (x ∷ xs) h = by (f x) refl (filter-all f P xs (h .1))
+  where
+    by : (b : Bool) → f x ≡ b → All (λ x. P x × (f x ≡ true)) (filter f xs) → All (λ x. P x × (f x ≡ true)) (pick b (x ∷ filter f xs) (filter f xs))
+    by true e r = ((h .0, e), r)
+    by false e r = r
+
+pub filter-up : (f : ℕ → Bool) (i m : ℕ) → All (λ x. ((i ≤ x) × (x < i + m)) × (f x ≡ true)) (filter f (upFrom i m))
+filter-up f i m = filter-all f (λ x. (i ≤ x) × (x < i + m)) (upFrom i m) (up-within i m (i + m) (omega arith))
+
+pub filter-same : (f g : ℕ → Bool) (xs : List ℕ) → All (λ x. f x ≡ g x) xs → filter f xs ≡ filter g xs
+filter-same f g [] h = refl
+filter-same f g (x ∷ xs) h = λ j. pick (h .0 j) (x ∷ filter-same f g xs (h .1) j) (filter-same f g xs (h .1) j)
+
+-- ---- ascending lists
+-- a figure that grows over the numbers that pass ascends over what is kept of them
+pub filter-ascending : (f : ℕ → Bool) (g : ℕ → ℕ) (i m : ℕ)
+    → ((x y : ℕ) → x < y → y < i + m → f x ≡ true → f y ≡ true → g x < g y) → Ascending (map g (filter f (upFrom i m)))
+filter-ascending f g i zero h = tt
+filter-ascending f g i (suc m) h = by (f i) refl (filter-ascending f g (suc i) m (λ x y l u. h x y l (omega arith)))
+  where
+    rest : List ℕ
+    rest = filter f (upFrom (suc i) m)
+
+    by : (b : Bool) → f i ≡ b → Ascending (map g rest) → Ascending (map g (pick b (i ∷ rest) rest))
+    by true e r =
+        (map-all g (λ y. g i < y) rest (All-to rest (λ x s. h i x (s .0 .0) (omega (arith, s .0 .1)) e (s .1)) (filter-up f (suc i) m)), r)
+    by false e r = r
+
+pub take-every : (P : ℕ → Type 0) (k : ℕ) (xs : List ℕ) → All P xs → All P (take k xs)
+take-every P zero xs h = tt
+take-every P (suc k) [] h = tt
+take-every P (suc k) (x ∷ xs) h = (h .0, take-every P k xs (h .1))
+
+pub take-ascending : (k : ℕ) (xs : List ℕ) → Ascending xs → Ascending (take k xs)
+take-ascending zero xs h = tt
+take-ascending (suc k) [] h = tt
+take-ascending (suc k) (x ∷ xs) h = (take-every (λ y. x < y) k xs (h .0), take-ascending k xs (h .1))
+
+pub ascending-distinct : (xs : List ℕ) → Ascending xs → Distinct xs
+ascending-distinct [] h = tt
+ascending-distinct (x ∷ xs) h = (All-to xs (λ y l e. omega arith) (h .0), ascending-distinct xs (h .1))
+
+-- ---- n numbers from 1 to n that ascend are 1 to n
+module _ (a : ℕ → ℕ) (n : ℕ) (up : (k : ℕ) → suc k < n → a k < a (suc k)) where
+  climbs : (k j : ℕ) → k + j < n → a k + j ≤ a (k + j)
+  climbs k zero h = let e : k + 0 ≡ k = omega arith in rw e (omega arith)
+  climbs k (suc j) h =
+      let e : k + suc j ≡ suc (k + j) = omega arith in
+      let s = climbs k j (omega arith) in
+      let t = up (k + j) (omega arith) in
+      rw e (omega arith)
+
+  pub fills : 1 ≤ a 0 → ((k : ℕ) → k < n → a k ≤ n) → (k : ℕ) → k < n → a k ≡ suc k
+  fills low high k h =
+      let last : k + (n - suc k) < n = omega arith in
+      let e : 0 + k ≡ k = omega arith in
+      omega (arith, rw e at (climbs 0 k (omega arith)), climbs k (n - suc k) last, high (k + (n - suc k)) last)
