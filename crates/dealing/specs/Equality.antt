@@ -10,11 +10,16 @@ use Rattle.group.specs.Power.{pow}
 use Rattle.group.specs.Table.{isGroup, groupOf}
 use Rattle.group.specs.Element.{isElement, isExponent}
 use Rattle.group.specs.declared.Group.{Group}
+use Rattle.dealing.specs.Records.{entry}
 use Rattle.dealing.specs.declared.Equality.{Equality}
 
 -- the announcement that the challenge c and the response r give for the element x to the base b: b^r times x^c
 unfoldable pub announced : Group → ℕ → ℕ → ℕ → ℕ → ℕ
 announced G b x c r = mul (G .p) (pow (G .p) b r) (pow (G .p) x c)
+
+-- the announcement of member i, from the lists of the members' figures
+abbrev pub announcedOf : Group → List ℕ → List ℕ → List ℕ → List ℕ → ℕ → ℕ
+announcedOf G bs xs cs rs i = announced G (entry bs i) (entry xs i) (entry cs i) (entry rs i)
 
 -- the response of the nonce w to the challenge c for the exponent e
 unfoldable pub response : Group → ℕ → ℕ → ℕ → ℕ
