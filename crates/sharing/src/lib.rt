@@ -1,4 +1,19 @@
 // One dealing's commitments: the degree check, the opening and recovery.
+ghost use mathlib.Core.Path.{_≡_};
+ghost use Rattle.group.specs.Answer.{powerOutcomeOf};
+ghost use Rattle.sharing.specs.Answer.{checkOutcomeOf, degreeOutcome, openingOutcome, recoveryOutcome};
+
+mod checks;
+mod members;
+mod shares;
+mod weights;
+
+pub use checks::round_group;
+pub use members::{all_members, is_member, none_twice};
+pub use shares::recovered_from;
+pub use weights::degree_product;
+
+use group::{Exponent, GroupAnswer, PowerAnswer, all_elements, all_exponents, is_exponent};
 
 // A round's figures as they are lent: the group's number, the number of members and the threshold.
 pub struct Round {
@@ -11,4 +26,93 @@ pub struct Round {
 pub enum CheckAnswer {
     Passed,
     Refused(u32),
+}
+
+// The members of the largest round.
+const MEMBERS: [u32; 31] = [
+    1, 2, 3, 4, 5, 6, 7, 8, 9, 10, 11, 12, 13, 14, 15, 16, 17, 18, 19, 20, 21, 22, 23, 24, 25, 26, 27, 28, 29, 30, 31,
+];
+
+// The degree check of the commitments vs by the check polynomial cs. Refused: 1 and 2 as round_group; 3 not n commitments
+// or not n - t coefficients; 6 a commitment that is no element; 7 a coefficient not below q; 9 the product is not 1.
+pub fn degree_check(rd: Round, vs: &[u32], cs: &[u32]) -> CheckAnswer
+    ensures { λ r. ⌜ checkOutcomeOf r ≡ degreeOutcome rd (now (vs .entry)) (now (cs .entry)) ⌝ }
+{
+    match round_group(rd) {
+        GroupAnswer::Refused(k) => CheckAnswer::Refused(k),
+        GroupAnswer::Value(gr) => {
+            if vs.len() != rd.n as usize {
+                return CheckAnswer::Refused(3);
+            }
+            if cs.len() != (rd.n - rd.t) as usize {
+                return CheckAnswer::Refused(3);
+            }
+            if !all_elements(gr, vs) {
+                return CheckAnswer::Refused(6);
+            }
+            if !all_exponents(gr, cs) {
+                return CheckAnswer::Refused(7);
+            }
+            if degree_product(gr, rd.n, vs, cs).0 != 1 {
+                return CheckAnswer::Refused(9);
+            }
+            CheckAnswer::Passed
+        }
+    }
+}
+
+// Whether s opens the commitments vs: g to the power s is what the first t of them give at 0. Refused: 1 and 2 as
+// round_group; 3 not n commitments; 6 a commitment that is no element; 7 s is not below q; 11 s is not right.
+pub fn opening(rd: Round, vs: &[u32], s: Exponent) -> CheckAnswer
+    ensures { λ r. ⌜ checkOutcomeOf r ≡ openingOutcome rd (now (vs .entry)) (s .0) ⌝ }
+{
+    match round_group(rd) {
+        GroupAnswer::Refused(k) => CheckAnswer::Refused(k),
+        GroupAnswer::Value(gr) => {
+            if vs.len() != rd.n as usize {
+                return CheckAnswer::Refused(3);
+            }
+            if !all_elements(gr, vs) {
+                return CheckAnswer::Refused(6);
+            }
+            if !is_exponent(gr, s) {
+                return CheckAnswer::Refused(7);
+            }
+            let t = rd.t as usize;
+            let members = MEMBERS;
+            let at_zero = recovered_from(gr, &members[..t], &vs[..t]);
+            if gr.g.power(gr, s).0 != at_zero.0 {
+                return CheckAnswer::Refused(11);
+            }
+            CheckAnswer::Passed
+        }
+    }
+}
+
+// The secret that the shares ss of the members ms give. Refused: 1 and 2 as round_group; 3 not one share to a member;
+// 8 fewer than t members, one outside 1 to n, or one twice; 6 a share that is no element.
+pub fn recovery(rd: Round, ms: &[u32], ss: &[u32]) -> PowerAnswer
+    ensures { λ r. ⌜ powerOutcomeOf r ≡ recoveryOutcome rd (now (ms .entry)) (now (ss .entry)) ⌝ }
+{
+    match round_group(rd) {
+        GroupAnswer::Refused(k) => PowerAnswer::Refused(k),
+        GroupAnswer::Value(gr) => {
+            if ms.len() != ss.len() {
+                return PowerAnswer::Refused(3);
+            }
+            if ms.len() < rd.t as usize {
+                return PowerAnswer::Refused(8);
+            }
+            if !all_members(rd.n, ms) {
+                return PowerAnswer::Refused(8);
+            }
+            if !none_twice(ms) {
+                return PowerAnswer::Refused(8);
+            }
+            if !all_elements(gr, ss) {
+                return PowerAnswer::Refused(6);
+            }
+            PowerAnswer::Value(recovered_from(gr, ms, ss))
+        }
+    }
 }
