@@ -47,11 +47,13 @@ module _ (q : ℕ) (P : Prime q) where
 
   mul-unit : (a b : ℕ) → Nonzero q a → Nonzero q b → Nonzero q (mul q a b)
   unfolding mul
-  mul-unit a b u v =
-      (⊎-elim
-      (λ e. absurd (⊎-elim (λ z. omega (arith, not-zero a u)) (λ z. omega (arith, not-zero b v)) (euclid q P a b e)))
-      (λ h. h)
-      (eq-zero-or-pos ((a * b) % q)), mul-below q a b (positive q P))
+  mul-unit a b u v = (
+    ⊎-elim
+        (λ e. absurd (⊎-elim (λ z. omega (arith, not-zero a u)) (λ z. omega (arith, not-zero b v)) (euclid q P a b e)))
+        (λ h. h)
+        (eq-zero-or-pos ((a * b) % q)),
+    mul-below q a b (positive q P),
+  )
 
   exchange : (a b c d : ℕ) → mul q (mul q a b) (mul q c d) ≡ mul q (mul q a c) (mul q b d)
   exchange a b c d =

@@ -3,9 +3,10 @@ ghost use mathlib.Core.Path.{_≡_};
 ghost use Rattle.words.specs.Checks.{outcome};
 ghost use Rattle.group.specs.Table.{groupOutcomeOf};
 ghost use Rattle.sharing.specs.Round.{groupIn, isRound, roundChecks};
-
 use crate::Round;
-use group::{Group, GroupAnswer, group_of};
+use group::Group;
+use group::GroupAnswer;
+use group::group_of;
 
 // n from 1 to 31 and below q, t from 1 to n
 fn is_round(gr: Group, n: u32, t: u32) -> bool

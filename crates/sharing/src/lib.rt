@@ -9,11 +9,18 @@ mod shares;
 mod weights;
 
 pub use checks::round_group;
-pub use members::{all_members, is_member, none_twice};
+use group::Exponent;
+use group::GroupAnswer;
+use group::PowerAnswer;
+use group::all_elements;
+use group::all_exponents;
+use group::is_exponent;
+pub use members::all_members;
+pub use members::is_member;
+pub use members::none_twice;
 pub use shares::recovered_from;
+use shares::recovered_from_first;
 pub use weights::degree_product;
-
-use group::{Exponent, GroupAnswer, PowerAnswer, all_elements, all_exponents, is_exponent};
 
 // A round's figures as they are lent: the group's number, the number of members and the threshold.
 pub struct Round {
@@ -27,11 +34,6 @@ pub enum CheckAnswer {
     Passed,
     Refused(u32),
 }
-
-// The members of the largest round.
-const MEMBERS: [u32; 31] = [
-    1, 2, 3, 4, 5, 6, 7, 8, 9, 10, 11, 12, 13, 14, 15, 16, 17, 18, 19, 20, 21, 22, 23, 24, 25, 26, 27, 28, 29, 30, 31,
-];
 
 // The degree check of the commitments vs by the check polynomial cs. Refused: 1 and 2 as round_group; 3 not n commitments
 // or not n - t coefficients; 6 a commitment that is no element; 7 a coefficient not below q; 9 the product is not 1.
@@ -78,9 +80,7 @@ pub fn opening(rd: Round, vs: &[u32], s: Exponent) -> CheckAnswer
             if !is_exponent(gr, s) {
                 return CheckAnswer::Refused(7);
             }
-            let t = rd.t as usize;
-            let members = MEMBERS;
-            let at_zero = recovered_from(gr, &members[..t], &vs[..t]);
+            let at_zero = recovered_from_first(gr, rd.t, vs);
             if gr.g.power(gr, s).0 != at_zero.0 {
                 return CheckAnswer::Refused(11);
             }

@@ -1,13 +1,50 @@
 // Lagrange's coefficients at 0, and the product of shares to them.
 ghost use mathlib.Core.Path.{_≡_};
-ghost use Prim.Native.Nat.{_<_};
-ghost use lib.ListN.{length};
+ghost use Prim.Native.Nat.{_≤_, _<_};
+ghost use lib.ListN.{length, take};
 ghost use Rattle.words.specs.Lists.{Below};
 ghost use Rattle.group.specs.Element.{Proper};
+ghost use Rattle.sharing.specs.Round.{members};
 ghost use Rattle.sharing.specs.Weights.{lagrangeAt};
 ghost use Rattle.sharing.specs.Answer.{recovered};
+use group::Element;
+use group::Exponent;
+use group::Group;
 
-use group::{Element, Exponent, Group};
+// The members of the largest round.
+const MEMBERS: [u32; 31] = [
+    1,
+    2,
+    3,
+    4,
+    5,
+    6,
+    7,
+    8,
+    9,
+    10,
+    11,
+    12,
+    13,
+    14,
+    15,
+    16,
+    17,
+    18,
+    19,
+    20,
+    21,
+    22,
+    23,
+    24,
+    25,
+    26,
+    27,
+    28,
+    29,
+    30,
+    31,
+];
 
 // Lagrange's coefficient at 0 of member i among the members ms: over the other members j, the product of the j divided by
 // the product of the j - i.
@@ -45,4 +82,15 @@ pub fn recovered_from(gr: Group, ms: &[u32], ss: &[u32]) -> Element
         product = Element(s).power(gr, exponent).times(gr, product);
     }
     product
+}
+
+// The same product of the first t figures, those of the members 1 to t.
+// Internal: callers ensure that the group is proper, that t is at most 31 and below q and that there are at least t figures.
+pub fn recovered_from_first(gr: Group, t: u32, vs: &[u32]) -> Element
+    requires { ⌜ (Proper gr) × (t ≤ 31) × (t < gr .q) × (t ≤ length (now vs)) ⌝ }
+    ensures { λ r. ⌜ r .0 ≡ recovered gr (members t) (take t (now (vs .entry))) ⌝ }
+{
+    let k = t as usize;
+    let members = MEMBERS;
+    recovered_from(gr, &members[..k], &vs[..k])
 }

@@ -5,8 +5,9 @@ ghost use lib.ListN.{length};
 ghost use Rattle.group.specs.Element.{Proper};
 ghost use Rattle.sharing.specs.Weights.{gapsAt, weightAt};
 ghost use Rattle.sharing.specs.Answer.{degreeProduct};
-
-use group::{Element, Exponent, Group};
+use group::Element;
+use group::Exponent;
+use group::Group;
 
 // The product of i - j over the other members j of 1 to n.
 // Internal: callers ensure that the group is proper and that n and i are below q.

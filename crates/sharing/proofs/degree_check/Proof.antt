@@ -7,12 +7,6 @@ use Rattle.sharing.specs.Answer.{degreeOutcome}
 use Rattle.sharing.proofs.Answers.{round-value, round-refused}
 use Rattle.sharing.proofs.degree_check.Statement.{statement}
 use Rattle.sharing.proofs.degree_check.Tie as tie
-use Rattle.sharing.proofs.degree_check.Reads as reads
-use Rattle.sharing.proofs.degree_check.Lts as lts
-use Rattle.group.proofs.all_elements.Reads as all-elements-reads
-use Rattle.group.proofs.all_exponents.Reads as all-exponents-reads
-use Rattle.sharing.proofs.checks.round_group.Reads as round-group-reads
-use Rattle.sharing.proofs.weights.degree_product.Reads as degree-product-reads
 
 round-group-requires : tie.Need-round-group-requires
 round-group-requires c κs = search needs
