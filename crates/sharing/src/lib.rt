@@ -1,5 +1,7 @@
 // One dealing's commitments: the degree check, the opening and recovery.
 ghost use mathlib.Core.Path.{_≡_};
+ghost use Rattle.words.specs.Choice.{pick};
+ghost use Rattle.words.specs.Checks.{value, refused};
 ghost use Rattle.group.specs.Answer.{powerOutcomeOf};
 ghost use Rattle.sharing.specs.Answer.{checkOutcomeOf, degreeOutcome, openingOutcome, recoveryOutcome};
 
@@ -17,6 +19,7 @@ use group::all_exponents;
 use group::is_exponent;
 pub use members::all_members;
 pub use members::is_member;
+use members::is_quorum;
 pub use members::none_twice;
 pub use shares::recovered_from;
 use shares::recovered_from_first;
@@ -33,6 +36,17 @@ pub struct Round {
 pub enum CheckAnswer {
     Passed,
     Refused(u32),
+}
+
+// The answer by the last test.
+fn passed_if(test: bool, number: u32) -> CheckAnswer
+    ensures { λ r. ⌜ checkOutcomeOf r ≡ pick test (value tt) (refused number) ⌝ }
+{
+    if test {
+        CheckAnswer::Passed
+    } else {
+        CheckAnswer::Refused(number)
+    }
 }
 
 // The degree check of the commitments vs by the check polynomial cs. Refused: 1 and 2 as round_group; 3 not n commitments
@@ -55,10 +69,8 @@ pub fn degree_check(rd: Round, vs: &[u32], cs: &[u32]) -> CheckAnswer
             if !all_exponents(gr, cs) {
                 return CheckAnswer::Refused(7);
             }
-            if degree_product(gr, rd.n, vs, cs).0 != 1 {
-                return CheckAnswer::Refused(9);
-            }
-            CheckAnswer::Passed
+            let product = degree_product(gr, rd.n, vs, cs);
+            passed_if(product.0 == 1, 9)
         }
     }
 }
@@ -80,11 +92,9 @@ pub fn opening(rd: Round, vs: &[u32], s: Exponent) -> CheckAnswer
             if !is_exponent(gr, s) {
                 return CheckAnswer::Refused(7);
             }
-            let at_zero = recovered_from_first(gr, rd.t, vs);
-            if gr.g.power(gr, s).0 != at_zero.0 {
-                return CheckAnswer::Refused(11);
-            }
-            CheckAnswer::Passed
+            let committed = recovered_from_first(gr, rd.t, vs);
+            let opened = gr.g.power(gr, s);
+            passed_if(opened.0 == committed.0, 11)
         }
     }
 }
@@ -100,13 +110,7 @@ pub fn recovery(rd: Round, ms: &[u32], ss: &[u32]) -> PowerAnswer
             if ms.len() != ss.len() {
                 return PowerAnswer::Refused(3);
             }
-            if ms.len() < rd.t as usize {
-                return PowerAnswer::Refused(8);
-            }
-            if !all_members(rd.n, ms) {
-                return PowerAnswer::Refused(8);
-            }
-            if !none_twice(ms) {
+            if !is_quorum(rd.n, rd.t, ms) {
                 return PowerAnswer::Refused(8);
             }
             if !all_elements(gr, ss) {

@@ -1,6 +1,8 @@
 // Tests of member numbers: whether a number is a member's, whether each of a list is, and whether none stands twice.
 ghost use mathlib.Core.Path.{_≡_};
+ghost use mathlib.Core.Bool.{_&&_};
 ghost use Prim.Native.Nat.{_≤_};
+ghost use lib.Dec.{leb};
 ghost use lib.ListN.{length, drop};
 ghost use Rattle.words.specs.Lists.{all, absent, noneTwice};
 ghost use Rattle.sharing.specs.Round.{isMember};
@@ -54,4 +56,17 @@ pub fn none_twice(ms: &[u32]) -> bool
         i += 1;
     }
     true
+}
+
+// Whether the list has t or more members, each from 1 to n and none twice.
+pub fn is_quorum(n: u32, t: u32, ms: &[u32]) -> bool
+    ensures { λ r. ⌜ r ≡ leb t (length (now (ms .entry))) && (all (isMember n) (now (ms .entry)) && noneTwice (now (ms .entry))) ⌝ }
+{
+    if ms.len() < t as usize {
+        return false;
+    }
+    if !all_members(n, ms) {
+        return false;
+    }
+    none_twice(ms)
 }

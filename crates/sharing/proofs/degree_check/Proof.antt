@@ -55,8 +55,7 @@ returns-3 c =
     let l = m .before .before in
     let g = l .before .before .before in
     let s = round-value _ (g .before .before .round-group .ensures) (g .gr .given .1) in
-    simp
-    (s .number, s .is-group, s .range, eq-eqb _ _ (l .if1 .left), eq-eqb _ _ (m .if2 .left), ← v .all-elements .ensures, not-true (v .all-elements .result) (c .if3 .taken))
+    simp (s .number, s .is-group, s .range, eq-eqb _ _ (l .if1 .left), eq-eqb _ _ (m .if2 .left), ← v .all-elements .ensures, not-true (v .all-elements .result) (c .if3 .taken))
 
 all-exponents-requires : tie.Need-all-exponents-requires
 all-exponents-requires c κs = search needs
@@ -70,8 +69,7 @@ returns-4 c =
     let l = m .before .before in
     let g = l .before .before .before in
     let s = round-value _ (g .before .before .round-group .ensures) (g .gr .given .1) in
-    simp
-    (s .number, s .is-group, s .range, eq-eqb _ _ (l .if1 .left), eq-eqb _ _ (m .if2 .left), ← v .all-elements .ensures, not-false (v .all-elements .result) (x .before .if3 .left), ← x .all-exponents .ensures, not-true (x .all-exponents .result) (c .if4 .taken))
+    simp (s .number, s .is-group, s .range, eq-eqb _ _ (l .if1 .left), eq-eqb _ _ (m .if2 .left), ← v .all-elements .ensures, not-false (v .all-elements .result) (x .before .if3 .left), ← x .all-exponents .ensures, not-true (x .all-exponents .result) (c .if4 .taken))
 
 degree-product-requires : tie.Need-degree-product-requires
 degree-product-requires c κs =
@@ -80,26 +78,16 @@ degree-product-requires c κs =
     let s = round-value _ (g .before .before .round-group .ensures) (g .gr .given .1) in
     (s .proper, s .few, l .if1 .left)
 
+passed-if-requires : tie.Need-passed-if-requires
+passed-if-requires c κs = search needs
+
 returns-5 : tie.Need-returns-5
 unfolding degreeOutcome
-returns-5 c =
-    let d = c .before .before in
-    let x = d .before .before in
-    let v = x .before .before in
-    let m = v .before in
-    let l = m .before .before in
-    let g = l .before .before .before in
-    let s = round-value _ (g .before .before .round-group .ensures) (g .gr .given .1) in
-    simp
-    (s .number, s .is-group, s .range, eq-eqb _ _ (l .if1 .left), eq-eqb _ _ (m .if2 .left), ← v .all-elements .ensures, not-false (v .all-elements .result) (x .before .if3 .left), ← x .all-exponents .ensures, not-false (x .all-exponents .result) (d .before .if4 .left), ← d .degree-product .ensures, ne-eqb _ 1 (c .if5 .taken))
+returns-5 c = sym (round-refused _ (c .before .before .before .round-group .ensures) (c .before .k .given .1) _)
 
 returns-6 : tie.Need-returns-6
 unfolding degreeOutcome
-returns-6 c = sym (round-refused _ (c .before .before .before .round-group .ensures) (c .before .k .given .1) _)
-
-returns-7 : tie.Need-returns-7
-unfolding degreeOutcome
-returns-7 c =
+returns-6 c =
     let d = c .before .before in
     let x = d .before .before in
     let v = x .before .before in
@@ -107,8 +95,8 @@ returns-7 c =
     let l = m .before .before in
     let g = l .before .before .before in
     let s = round-value _ (g .before .before .round-group .ensures) (g .gr .given .1) in
-    simp
-    (s .number, s .is-group, s .range, eq-eqb _ _ (l .if1 .left), eq-eqb _ _ (m .if2 .left), ← v .all-elements .ensures, not-false (v .all-elements .result) (x .before .if3 .left), ← x .all-exponents .ensures, not-false (x .all-exponents .result) (d .before .if4 .left), ← d .degree-product .ensures, eq-eqb _ 1 (c .if5 .left))
+    c .passed-if .ensures
+    ∙ simp (s .number, s .is-group, s .range, eq-eqb _ _ (l .if1 .left), eq-eqb _ _ (m .if2 .left), ← v .all-elements .ensures, not-false (v .all-elements .result) (x .before .if3 .left), ← x .all-exponents .ensures, not-false (x .all-exponents .result) (d .before .if4 .left), ← d .degree-product .ensures)
 
 pub degree-check-spec : {M : Type 1} → statement M
 degree-check-spec =
@@ -127,6 +115,6 @@ degree-check-spec =
     all-exponents-requires
     returns-4
     degree-product-requires
+    passed-if-requires
     returns-5
-    returns-6
-    returns-7)
+    returns-6)

@@ -37,8 +37,7 @@ returns-2 c =
     let l = v .before in
     let g = l .before .before .before in
     let s = round-value _ (g .before .before .round-group .ensures) (g .gr .given .1) in
-    simp
-    (s .number, s .is-group, s .range, eq-eqb _ _ (l .if1 .left), ← v .all-elements .ensures, not-true (v .all-elements .result) (c .if2 .taken))
+    simp (s .number, s .is-group, s .range, eq-eqb _ _ (l .if1 .left), ← v .all-elements .ensures, not-true (v .all-elements .result) (c .if2 .taken))
 
 is-exponent-requires : tie.Need-is-exponent-requires
 is-exponent-requires c κs = search needs
@@ -51,8 +50,7 @@ returns-3 c =
     let l = v .before in
     let g = l .before .before .before in
     let s = round-value _ (g .before .before .round-group .ensures) (g .gr .given .1) in
-    simp
-    (s .number, s .is-group, s .range, eq-eqb _ _ (l .if1 .left), ← v .all-elements .ensures, not-false (v .all-elements .result) (x .before .if2 .left), ← x .is-exponent .ensures, not-true (x .is-exponent .result) (c .if3 .taken))
+    simp (s .number, s .is-group, s .range, eq-eqb _ _ (l .if1 .left), ← v .all-elements .ensures, not-false (v .all-elements .result) (x .before .if2 .left), ← x .is-exponent .ensures, not-true (x .is-exponent .result) (c .if3 .taken))
 
 recovered-from-first-requires : tie.Need-recovered-from-first-requires
 recovered-from-first-requires c κs =
@@ -67,26 +65,16 @@ power-requires c κs =
     let g = c .before .before .before .before .before .before .before .before in
     round-value _ (g .before .before .round-group .ensures) (g .gr .given .1) .proper .prime-p .above-one
 
+passed-if-requires : tie.Need-passed-if-requires
+passed-if-requires c κs = search needs
+
 returns-4 : tie.Need-returns-4
 unfolding openingOutcome
-returns-4 c =
-    let e = c .before .before .before in
-    let r = e .before in
-    let x = r .before .before in
-    let v = x .before .before in
-    let l = v .before in
-    let g = l .before .before .before in
-    let s = round-value _ (g .before .before .round-group .ensures) (g .gr .given .1) in
-    simp
-    (s .number, s .is-group, s .range, eq-eqb _ _ (l .if1 .left), ← v .all-elements .ensures, not-false (v .all-elements .result) (x .before .if2 .left), ← x .is-exponent .ensures, not-false (x .is-exponent .result) (r .before .if3 .left), ← e .power .ensures, ← r .recovered-from-first .ensures, ne-eqb _ _ (c .if4 .taken))
+returns-4 c = sym (round-refused _ (c .before .before .before .round-group .ensures) (c .before .k .given .1) _)
 
 returns-5 : tie.Need-returns-5
 unfolding openingOutcome
-returns-5 c = sym (round-refused _ (c .before .before .before .round-group .ensures) (c .before .k .given .1) _)
-
-returns-6 : tie.Need-returns-6
-unfolding openingOutcome
-returns-6 c =
+returns-5 c =
     let e = c .before .before .before in
     let r = e .before in
     let x = r .before .before in
@@ -94,8 +82,8 @@ returns-6 c =
     let l = v .before in
     let g = l .before .before .before in
     let s = round-value _ (g .before .before .round-group .ensures) (g .gr .given .1) in
-    simp
-    (s .number, s .is-group, s .range, eq-eqb _ _ (l .if1 .left), ← v .all-elements .ensures, not-false (v .all-elements .result) (x .before .if2 .left), ← x .is-exponent .ensures, not-false (x .is-exponent .result) (r .before .if3 .left), ← e .power .ensures, ← r .recovered-from-first .ensures, eq-eqb _ _ (c .if4 .left))
+    c .passed-if .ensures
+    ∙ simp (s .number, s .is-group, s .range, eq-eqb _ _ (l .if1 .left), ← v .all-elements .ensures, not-false (v .all-elements .result) (x .before .if2 .left), ← x .is-exponent .ensures, not-false (x .is-exponent .result) (r .before .if3 .left), ← e .power .ensures, ← r .recovered-from-first .ensures)
 
 pub opening-spec : {M : Type 1} → statement M
 opening-spec =
@@ -112,6 +100,6 @@ opening-spec =
     returns-3
     recovered-from-first-requires
     power-requires
+    passed-if-requires
     returns-4
-    returns-5
-    returns-6)
+    returns-5)

@@ -62,12 +62,9 @@ loop-again c =
     let n = c .before .before .before .if1 .taken in
     let h : 0 < l .k = omega arith in (
       search needs,
-      c .before .before .times .ensures
-          ∙ ap (mul (a .gr .q) _) (l .inv .1)
-          ∙ product-other (a .gr .q) p (λ j. j) (a .i) (a .ms .now) (l .k) h (l .inv .0) _ refl n,
-      c .times2 .ensures
-          ∙ (λ j. mul (a .gr .q) (c .before .minus .ensures j) (l .inv .2 j))
-          ∙ product-other (a .gr .q) p (λ j. sub (a .gr .q) j (a .i)) (a .i) (a .ms .now) (l .k) h (l .inv .0) _ refl n,
+      rw (c .before .before .times .ensures, l .inv .1) (product-other (a .gr .q) p (λ j. j) (a .i) (a .ms .now) (l .k) h (l .inv .0) _ refl n),
+      rw (c .times2 .ensures, c .before .minus .ensures, l .inv .2)
+          (product-other (a .gr .q) p (λ j. sub (a .gr .q) j (a .i)) (a .i) (a .ms .now) (l .k) h (l .inv .0) _ refl n),
     )
 
 loop-less-2 : tie.Need-loop-less-2 Inv-loop μ-loop
