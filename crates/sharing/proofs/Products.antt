@@ -1,10 +1,9 @@
 -- Products over the other members of a list, modulo a prime q: where no factor is 0 the product is not 0, and a product of quotients is
 -- the quotient of two products, since the inverse of a product is the product of the inverses.
-use mathlib.Core.Path.{_≡_, refl, sym, ap, _∙_}
-use mathlib.Core.Bool.{Bool, true, false}
+use mathlib.Core.Path.{_≡_, sym, ap, _∙_}
 use mathlib.Core.List.{List, [], _∷_}
 use mathlib.Core.Logic.{⊎-elim}
-use Prim.Native.Nat.{ℕ, _*_, _%_, _≤_, _<_}
+use Prim.Native.Nat.{ℕ, _*_, _%_, _<_}
 use native.Mathlib.Decide.{ℕ-discrete}
 use native.Mathlib.Nat.{mod-eq-of-lt, eq-zero-or-pos}
 use native.Mathlib.Omega.{arith}
@@ -16,7 +15,7 @@ use Rattle.words.proofs.Tests.{pick-true, pick-false}
 use Rattle.field.specs.Residue.{mul, sub, inv}
 use Rattle.field.specs.Prime.{Prime}
 use Rattle.field.proofs.Modular.{mul-assoc, mul-comm, mul-one, mul-below, sub-below, sub-pos}
-use Rattle.field.proofs.Inverses.{positive, euclid, mul-inv, inv-below, inv-unique}
+use Rattle.field.proofs.Inverses.{positive, euclid, mul-inv, inv-unique}
 use Rattle.sharing.specs.Round.{members}
 use Rattle.sharing.specs.Weights.{productOver, gapsAt, lagrangeAt}
 

@@ -1,7 +1,7 @@
 -- `shares::lagrange` meets its contract. The loop's invariant: numbers and gaps are the products of j and of j - i over the other members j
 -- from index k on. Neither gap is 0, and the quotient of the two products is the product of the quotients.
-use mathlib.Core.Path.{_≡_, refl, sym, ap, _∙_}
-use Prim.Native.Nat.{ℕ, _-_, _≤_, _<_}
+use mathlib.Core.Path.{_≡_, refl, ap, _∙_}
+use Prim.Native.Nat.{_-_, _≤_, _<_}
 use native.Mathlib.Omega.{arith}
 use borrow.Author.Needs.{needs}
 use lib.ListN.{length, drop}

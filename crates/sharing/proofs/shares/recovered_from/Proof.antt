@@ -1,14 +1,12 @@
 -- `shares::recovered_from` meets its contract. The loop's invariant: the product is that of the shares from index i on to Lagrange's
 -- coefficients of their members.
-use mathlib.Core.Path.{_≡_, refl, sym, ap, _∙_}
+use mathlib.Core.Path.{_≡_, sym, _∙_}
 use Prim.Native.Nat.{ℕ, _-_, _≤_, _<_}
 use native.Mathlib.Omega.{arith}
 use borrow.Author.Needs.{needs}
 use lib.ListN.{length, drop}
 use Rattle.words.specs.Lists.{map}
 use Rattle.words.proofs.Lists.{All-at, map-length, map-at}
-use Rattle.field.specs.Residue.{mul}
-use Rattle.group.specs.Power.{pow}
 use Rattle.sharing.specs.Weights.{lagrangeAt, powers}
 use Rattle.sharing.specs.Answer.{recovered}
 use Rattle.sharing.proofs.Loops.{powers-start, powers-next}
@@ -67,9 +65,8 @@ loop-again c =
     let b : l .i - 1 < length (a .ms .now) = omega arith in
     let e = c .before .before .before .lagrange .ensures ∙ sym (map-at f (a .ms .now) (l .i - 1) 0 0 b) in (
       search needs,
-      c .times .ensures
-          ∙ (λ k. mul (a .gr .p) ((c .before .power .ensures ∙ ap (pow (a .gr .p) _) e) k) (l .inv .1 k))
-          ∙ powers-next (a .gr .p) (a .ss .now) (map f (a .ms .now)) (l .i) h (omega (arith, P .2)) (map-length f (a .ms .now) ∙ P .2),
+      rw (c .times .ensures, c .before .power .ensures, e, l .inv .1)
+          (powers-next (a .gr .p) (a .ss .now) (map f (a .ms .now)) (l .i) h (omega (arith, P .2)) (map-length f (a .ms .now) ∙ P .2)),
     )
 
 returns : tie.Need-returns Inv-loop μ-loop

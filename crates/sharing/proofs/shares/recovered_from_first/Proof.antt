@@ -1,5 +1,5 @@
 -- `shares::recovered_from_first` meets its contract: the first t of the numbers 1 to 31 are the members 1 to t.
-use mathlib.Core.Path.{_≡_, sym, ap, _∙_, subst}
+use mathlib.Core.Path.{sym, ap, _∙_, subst}
 use mathlib.Core.List.{List}
 use Prim.Native.Nat.{ℕ}
 use native.Mathlib.Omega.{arith}

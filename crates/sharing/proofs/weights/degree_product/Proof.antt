@@ -1,11 +1,9 @@
 -- `weights::degree_product` meets its contract. The loop's invariant: the product is that of the commitments from index i on to their weights.
-use mathlib.Core.Path.{_≡_, refl, sym, ap, _∙_}
-use Prim.Native.Nat.{ℕ, _≤_, _<_}
+use mathlib.Core.Path.{_≡_, sym, _∙_}
+use Prim.Native.Nat.{_≤_, _<_}
 use native.Mathlib.Omega.{arith}
 use borrow.Author.Needs.{needs}
 use lib.ListN.{length, drop}
-use Rattle.field.specs.Residue.{mul}
-use Rattle.group.specs.Power.{pow}
 use Rattle.sharing.specs.Weights.{weightsOf, powers}
 use Rattle.sharing.specs.Answer.{degreeProduct}
 use Rattle.sharing.proofs.Loops.{powers-start, powers-next, weights-length, weights-at}
@@ -55,9 +53,8 @@ loop-again c =
     let b : l .i ≤ length (a .vs .now) = omega (arith, P .2) in
     let e = c .before .before .before .weight .ensures ∙ sym (weights-at (a .gr .q) (a .n) (a .cs .now) (l .i) h (l .inv .0)) in (
       search needs,
-      c .times .ensures
-          ∙ (λ k. mul (a .gr .p) ((c .before .power .ensures ∙ ap (pow (a .gr .p) _) e) k) (l .inv .1 k))
-          ∙ powers-next (a .gr .p) (a .vs .now) es (l .i) h b (weights-length (a .gr .q) (a .n) (a .cs .now) ∙ sym (P .2)),
+      rw (c .times .ensures, c .before .power .ensures, e, l .inv .1)
+          (powers-next (a .gr .p) (a .vs .now) es (l .i) h b (weights-length (a .gr .q) (a .n) (a .cs .now) ∙ sym (P .2))),
     )
 
 returns : tie.Need-returns Inv-loop μ-loop

@@ -1,12 +1,12 @@
 -- `weights::gaps` meets its contract. The loop's invariant: the product is that over the other members above j.
 use mathlib.Core.Path.{_≡_, sym, ap, _∙_}
 use mathlib.Core.Logic.{⊎-elim}
-use Prim.Native.Nat.{ℕ, _-_, _≤_, _<_}
+use Prim.Native.Nat.{ℕ, _≤_, _<_}
 use native.Mathlib.Omega.{arith}
 use borrow.Author.Needs.{needs}
 use lib.ListN.{length, drop}
 use Rattle.words.proofs.Lists.{up-length}
-use Rattle.field.specs.Residue.{sub, mul}
+use Rattle.field.specs.Residue.{sub}
 use Rattle.group.specs.declared.Exponent.{Exponent}
 use Rattle.sharing.specs.Round.{members}
 use Rattle.sharing.specs.Weights.{productOver, gapsAt}
@@ -48,9 +48,7 @@ loop-again c =
     (λ w. (
       search needs,
       ap (λ (x : Exponent). x .0) (w .3)
-          ∙ w .2 .ensures
-          ∙ (λ k. mul (a .gr .q) (w .1 .ensures k) (l .inv .1 k))
-          ∙ product-other (a .gr .q) p f (a .i) (members (a .n)) (l .j) h b (l .j) m (w .0 .taken),
+          ∙ rw (w .2 .ensures, w .1 .ensures, l .inv .1) (product-other (a .gr .q) p f (a .i) (members (a .n)) (l .j) h b (l .j) m (w .0 .taken)),
     ))
     (λ w. (
       search needs,
