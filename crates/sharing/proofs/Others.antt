@@ -4,18 +4,16 @@ use mathlib.Core.Path.{_≡_, refl, sym, ap, _∙_}
 use mathlib.Core.Bool.{Bool, true, false}
 use mathlib.Core.List.{List, [], _∷_}
 use Prim.Native.Nat.{ℕ, _<_}
-use native.Mathlib.Omega.{arith}
-use borrow.Author.Tests.{eq-eqb, ne-eqb}
 use lib.Dec.{eqb}
 use Rattle.words.specs.Choice.{pick}
 use Rattle.words.specs.Lists.{All, Distinct, map}
 use Rattle.words.proofs.Lists.{All-each, up-distinct}
-use Rattle.words.proofs.Tests.{pick-true, pick-false}
 use Rattle.field.specs.Residue.{add, mul, sub, inv, residueOps}
 use Rattle.field.specs.Polynomial.{dot, gaps, weights, divided, products, ratios, lagrange, atZero, valueAt}
-use Rattle.field.proofs.Modular.{mul-comm, mul-assoc, mul-one, mul-below, sub-add-neg}
+use Rattle.field.proofs.Modular.{mul-comm, mul-assoc, mul-one, sub-add-neg}
 use Rattle.sharing.specs.Round.{members}
 use Rattle.sharing.specs.Weights.{productOver, gapsAt, weightAt, weightsOf, lagrangeAt}
+use Rattle.sharing.proofs.Products.{self, other, others-below}
 
 -- x is none of the list
 abbrev Apart : ℕ → List ℕ → Type 0
@@ -31,22 +29,8 @@ module _ (q : ℕ) (above : 1 < q) (f : ℕ → ℕ) (x : ℕ) where
   abbrev others : List ℕ → ℕ
   others l = productOver q f x l
 
-  self : (l : List ℕ) → others (x ∷ l) ≡ others l
-  self l = pick-true (eqb x x) (others l) (mul q (f x) (others l)) (eq-eqb x x refl)
-
-  other : (y : ℕ) (l : List ℕ) → (x ≡ y → ⊥) → others (y ∷ l) ≡ mul q (f y) (others l)
-  other y l n = pick-false (eqb x y) (others l) (mul q (f y) (others l)) (ne-eqb x y n)
-
-  others-below : (l : List ℕ) → others l < q
-  others-below [] = above
-  others-below (y ∷ l) = by (eqb x y) (others-below l)
-    where
-      by : (b : Bool) → others l < q → pick b (others l) (mul q (f y) (others l)) < q
-      by true h = h
-      by false h = mul-below q (f y) (others l) (omega arith)
-
   others-whole : (before l : List ℕ) → others (whole before l) ≡ mul q (others before) (others l)
-  others-whole [] l = sym (mul-comm q 1 (others l) ∙ mul-one q (others l) (others-below l))
+  others-whole [] l = sym (mul-comm q 1 (others l) ∙ mul-one q (others l) (others-below q above f x l))
   others-whole (y ∷ before) l = others-whole before (y ∷ l) ∙ by (eqb x y)
     where
       by : (b : Bool) → mul q (others before) (pick b (others l) (mul q (f y) (others l)))
@@ -56,7 +40,7 @@ module _ (q : ℕ) (above : 1 < q) (f : ℕ → ℕ) (x : ℕ) where
 
   -- those before and those after
   others-split : (before after : List ℕ) → mul q (others before) (others after) ≡ others (whole before (x ∷ after))
-  others-split before after = sym (others-whole before (x ∷ after) ∙ ap (mul q (others before)) (self after))
+  others-split before after = sym (others-whole before (x ∷ after) ∙ ap (mul q (others before)) (self q above f x x after refl))
 
 -- ---- each node among those before and after it
 -- the nodes after are none of those before
