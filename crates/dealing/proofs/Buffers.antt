@@ -39,7 +39,7 @@ put-put k m xs ys l e h =
     ∙ ap (λ (t : List ℕ). t ++ drop (k + length (xs ++ ys)) l) (append-assoc (take k l) xs ys)
 
 -- ---- words put one after the other
-pub words-append : (ws us : List ℕ) → wordsBytes (ws ++ us) ≡ wordsBytes ws ++ wordsBytes us
+words-append : (ws us : List ℕ) → wordsBytes (ws ++ us) ≡ wordsBytes ws ++ wordsBytes us
 unfolding wordsBytes
 words-append [] us = refl
 words-append (w ∷ ws) us =

@@ -5,7 +5,7 @@ ghost use lib.ListN.{length, take};
 ghost use Rattle.words.specs.Lists.{map};
 ghost use Rattle.sharing.specs.Round.{members};
 ghost use Rattle.sharing.specs.Answer.{checkOutcomeOf};
-ghost use Rattle.dealing.specs.Equality.{announced, announcedOf, response, equalityOutcome};
+ghost use Rattle.dealing.specs.Equality.{announced, announcedOf, response, equationsHold, equalityOutcome};
 use crate::Equality;
 use group::Element;
 use group::Exponent;
@@ -25,7 +25,7 @@ pub fn announced(gr: Group, b: Element, x: Element, c: Exponent, r: Exponent) ->
     b.power(gr, r).times(gr, x.power(gr, c))
 }
 
-// The announcement for each member, from the members' figures: the first of an array.
+// The announcement of each member, from the lists of the members' figures: the first places of an array.
 // Internal: callers ensure that p is above 1 and that the lists have one length, at most 31.
 pub fn announcements(gr: Group, bs: &[u32], xs: &[u32], cs: &[u32], rs: &[u32]) -> [u32; 31]
     requires { ⌜ (1 < gr .p) × (length (now xs) ≤ 31) × (length (now bs) ≡ length (now xs)) × (length (now cs) ≡ length (now xs)) × (length (now rs) ≡ length (now xs)) ⌝ }
@@ -55,6 +55,16 @@ pub fn response(gr: Group, w: Exponent, c: Exponent, e: Exponent) -> Exponent
     w.minus(gr, c.times(gr, e))
 }
 
+// Whether both announcements are what the challenge and the response give.
+// Internal: callers ensure that p is above 1.
+fn equations_hold(gr: Group, e: Equality) -> bool
+    requires { ⌜ 1 < gr .p ⌝ }
+    ensures { λ r. ⌜ r ≡ equationsHold gr e ⌝ }
+{
+    e.a1.0 == announced(gr, e.b1, e.x1, e.c, e.r).0
+        && e.a2.0 == announced(gr, e.b2, e.x2, e.c, e.r).0
+}
+
 // One proof with lent figures. Refused: 1 no group of that number; 6 a figure that is no element; 7 c or r not below q;
 // 10 an equation for a1 or a2 fails.
 pub fn equality_check(number: u32, e: Equality) -> CheckAnswer
@@ -69,10 +79,7 @@ pub fn equality_check(number: u32, e: Equality) -> CheckAnswer
     if !all_exponents(gr, &[e.c.0, e.r.0]) {
         return CheckAnswer::Refused(7);
     }
-    if e.a1.0 != announced(gr, e.b1, e.x1, e.c, e.r).0 {
-        return CheckAnswer::Refused(10);
-    }
-    if e.a2.0 != announced(gr, e.b2, e.x2, e.c, e.r).0 {
+    if !equations_hold(gr, e) {
         return CheckAnswer::Refused(10);
     }
     CheckAnswer::Passed

@@ -60,7 +60,7 @@ fn put_four(m: &mut [u8], at: usize, a: u32, b: u32, c: u32, d: u32)
     put_two(m, at + 8, c, d);
 }
 
-// The challenge of a dealing: over v, Y, a1 and a2 of every line.
+// The challenge of a dealing: over v, Y, a1 and a2 of every line, the Y in es.
 // Internal: callers ensure a proper round and its group, a dealer at most n, and n figures in each list.
 pub fn dealing_challenge(
     gr: Group,
@@ -86,7 +86,7 @@ pub fn dealing_challenge(
     challenge(gr, &m[..end])
 }
 
-// The challenge of an opened share of member i: over y, Y, S, a1 and a2.
+// The challenge of an opened share of member i: over y, Y, S, a1 and a2, with e for Y and s for S.
 // Internal: callers ensure a proper round and its group, and a dealer and a member at most n.
 pub fn share_challenge(
     gr: Group,
@@ -110,7 +110,7 @@ pub fn share_challenge(
     challenge(gr, &m)
 }
 
-// The coefficient k of the judge's own check polynomial: over v and Y of every line.
+// The coefficient k of the judge's own check polynomial: over v and Y of every line, the Y in es.
 // Internal: callers ensure a proper round and its group, a dealer at most n, n figures in each list, and that k is a byte.
 fn coefficient(gr: Group, rd: Round, d: u32, vs: &[u32], es: &[u32], k: u32) -> Exponent
     requires { ⌜ (Met (roundChecks rd)) × (gr ≡ groupIn rd) × (d ≤ rd .n)
@@ -129,7 +129,7 @@ fn coefficient(gr: Group, rd: Round, d: u32, vs: &[u32], es: &[u32], k: u32) -> 
     challenge(gr, &m[..end])
 }
 
-// The judge's own check polynomial: the first n - t of an array.
+// The judge's own check polynomial: the first n - t places of an array.
 // Internal: callers ensure a proper round and its group, a dealer at most n, and n figures in each list.
 pub fn check_polynomial(gr: Group, rd: Round, d: u32, vs: &[u32], es: &[u32]) -> [u32; 31]
     requires { ⌜ (Met (roundChecks rd)) × (gr ≡ groupIn rd) × (d ≤ rd .n)

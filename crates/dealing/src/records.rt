@@ -54,7 +54,7 @@ pub fn record_at(b: &[u8], k: usize) -> Record
     words::read_record(&b[from..to])
 }
 
-// The word k of each member's record: the first n of an array.
+// The word k of each member's record: the first n places of an array.
 // Internal: callers ensure that the bytes are n records, at most 31, and that k is below 8.
 pub fn column(b: &[u8], n: usize, k: usize) -> [u32; 31]
     requires { ⌜ (n ≤ 31) × (length (now b) ≡ 32 * n) × (k < 8) ⌝ }

@@ -1,8 +1,6 @@
 -- `equality_check` meets its contract: the look-up tells the group or that there is none, and each test that fails decides.
-use mathlib.Core.Path.{sym, _∙_}
-use native.Mathlib.Omega.{arith}
 use borrow.Author.Needs.{needs}
-use borrow.Author.Tests.{not-true, not-false, eq-eqb, ne-eqb}
+use borrow.Author.Tests.{not-true, not-false}
 use Rattle.group.proofs.Answers.{group-value, group-refused}
 use Rattle.group.proofs.Table.{table-proper}
 use Rattle.dealing.specs.Equality.{equalityOutcome}
@@ -31,9 +29,10 @@ all-elements-requires c κs = search needs
 returns-2 : tie.Need-returns-2
 unfolding equalityOutcome
 returns-2 c =
-    let d = c .before .before .before .before in
+    let i = c .before in
+    let d = i .before .before .before in
     let g = group-value _ (d .before .before .group-of .ensures) (d .gr .given .1) in
-    simp (g .0, g .1, ← c .before .all-elements .ensures, not-true (c .before .all-elements .result) (c .if1 .taken))
+    simp (g .0, g .1, ← i .all-elements .ensures, not-true (i .all-elements .result) (c .if1 .taken))
 
 slice-aggregate-all-exponents : tie.Need-slice-aggregate-all-exponents
 slice-aggregate-all-exponents c = search needs
@@ -44,14 +43,16 @@ all-exponents-requires c κs = search needs
 returns-3 : tie.Need-returns-3
 unfolding equalityOutcome
 returns-3 c =
-    let f = c .before .before .before in
-    let d = f .before .before .before .before in
+    let j = c .before in
+    let f = j .before .before in
+    let i = f .before in
+    let d = i .before .before .before in
     let g = group-value _ (d .before .before .group-of .ensures) (d .gr .given .1) in
     simp
-    (g .0, g .1, ← f .before .all-elements .ensures, not-false (f .before .all-elements .result) (f .if1 .left), ← c .before .all-exponents .ensures, not-true (c .before .all-exponents .result) (c .if2 .taken))
+    (g .0, g .1, ← i .all-elements .ensures, not-false (i .all-elements .result) (f .if1 .left), ← j .all-exponents .ensures, not-true (j .all-exponents .result) (c .if2 .taken))
 
-announced-requires : tie.Need-announced-requires
-announced-requires c κs =
+equations-hold-requires : tie.Need-equations-hold-requires
+equations-hold-requires c κs =
     let d = c .before .before .before .before .before .before .before in
     let g = group-value _ (d .before .before .group-of .ensures) (d .gr .given .1) in
     rw (← g .1) (table-proper _ (g .0) .prime-p .above-one)
@@ -59,45 +60,28 @@ announced-requires c κs =
 returns-4 : tie.Need-returns-4
 unfolding equalityOutcome
 returns-4 c =
-    let a = c .before .before .before in
-    let f2 = a .before in
-    let f1 = f2 .before .before .before in
-    let d = f1 .before .before .before .before in
+    let k = c .before in
+    let e = k .before in
+    let j = e .before in
+    let f = j .before .before in
+    let i = f .before in
+    let d = i .before .before .before in
     let g = group-value _ (d .before .before .group-of .ensures) (d .gr .given .1) in
     simp
-    (g .0, g .1, ← f1 .before .all-elements .ensures, not-false (f1 .before .all-elements .result) (f1 .if1 .left), ← f2 .before .all-exponents .ensures, not-false (f2 .before .all-exponents .result) (f2 .if2 .left), ← a .announced .ensures, ne-eqb _ _ (c .if3 .taken))
-
-announced-requires-2 : tie.Need-announced-requires-2
-announced-requires-2 c κs =
-    let d = c .before .before .before .before .before .before .before .before .before .before .before in
-    let g = group-value _ (d .before .before .group-of .ensures) (d .gr .given .1) in
-    rw (← g .1) (table-proper _ (g .0) .prime-p .above-one)
+    (g .0, g .1, ← i .all-elements .ensures, not-false (i .all-elements .result) (f .if1 .left), ← j .all-exponents .ensures, not-false (j .all-exponents .result) (e .if2 .left), ← k .equations-hold .ensures, not-true (k .equations-hold .result) (c .if3 .taken))
 
 returns-5 : tie.Need-returns-5
 unfolding equalityOutcome
 returns-5 c =
-    let b = c .before .before .before in
-    let f3 = b .before in
-    let a = f3 .before .before .before in
-    let f2 = a .before in
-    let f1 = f2 .before .before .before in
-    let d = f1 .before .before .before .before in
+    let k = c .before in
+    let e = k .before in
+    let j = e .before in
+    let f = j .before .before in
+    let i = f .before in
+    let d = i .before .before .before in
     let g = group-value _ (d .before .before .group-of .ensures) (d .gr .given .1) in
     simp
-    (g .0, g .1, ← f1 .before .all-elements .ensures, not-false (f1 .before .all-elements .result) (f1 .if1 .left), ← f2 .before .all-exponents .ensures, not-false (f2 .before .all-exponents .result) (f2 .if2 .left), ← a .announced .ensures, eq-eqb _ _ (f3 .if3 .left), ← b .announced2 .ensures, ne-eqb _ _ (c .if4 .taken))
-
-returns-6 : tie.Need-returns-6
-unfolding equalityOutcome
-returns-6 c =
-    let b = c .before .before .before in
-    let f3 = b .before in
-    let a = f3 .before .before .before in
-    let f2 = a .before in
-    let f1 = f2 .before .before .before in
-    let d = f1 .before .before .before .before in
-    let g = group-value _ (d .before .before .group-of .ensures) (d .gr .given .1) in
-    simp
-    (g .0, g .1, ← f1 .before .all-elements .ensures, not-false (f1 .before .all-elements .result) (f1 .if1 .left), ← f2 .before .all-exponents .ensures, not-false (f2 .before .all-exponents .result) (f2 .if2 .left), ← a .announced .ensures, eq-eqb _ _ (f3 .if3 .left), ← b .announced2 .ensures, eq-eqb _ _ (c .if4 .left))
+    (g .0, g .1, ← i .all-elements .ensures, not-false (i .all-elements .result) (f .if1 .left), ← j .all-exponents .ensures, not-false (j .all-exponents .result) (e .if2 .left), ← k .equations-hold .ensures, not-false (k .equations-hold .result) (c .if3 .left))
 
 pub equality-check-spec : {M : Type 1} → statement M
 equality-check-spec =
@@ -113,8 +97,6 @@ equality-check-spec =
     slice-aggregate-all-exponents
     all-exponents-requires
     returns-3
-    announced-requires
+    equations-hold-requires
     returns-4
-    announced-requires-2
-    returns-5
-    returns-6)
+    returns-5)

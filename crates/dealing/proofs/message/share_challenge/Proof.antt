@@ -1,10 +1,10 @@
 -- `share_challenge` meets its contract: the member's byte and five words stand behind the head, and fill the buffer.
 use mathlib.Core.Path.{_≡_, refl, sym, ap, _∙_}
-use mathlib.Core.List.{List, [], _∷_}
-use Prim.Native.Nat.{ℕ, _+_}
+use mathlib.Core.List.{List, [], _∷_, _++_}
+use Prim.Native.Nat.{ℕ}
 use native.Mathlib.Omega.{arith}
 use borrow.Author.Needs.{needs}
-use lib.ListN.{length, take, set, length-set}
+use lib.ListN.{length, set, length-set}
 use lib.Seq.{take-all}
 use Rattle.words.specs.Bytes.{wordsBytes, putAt}
 use Rattle.words.proofs.Bytes.{words-length}
@@ -58,12 +58,16 @@ returns c =
     let a = s .args in
     let ws = a .y .0 ∷ a .e .0 ∷ a .s .0 ∷ a .a1 .0 ∷ [] in
     let us = a .a2 .0 ∷ [] in
-    let l = set (h .head .last .0) 5 (a .i) in
-    let n : length (h .head .last .0) ≡ 26 = h .head .kept .0 ∙ refl in
-    let p = put-words 6 22 ws us l refl (omega (arith, length-set (h .head .last .0) 5 (a .i))) (q .put-four .ensures)
-    (w .put-word .ensures ∙ ap (λ (t : List ℕ). putAt 22 t (q .put-four .last .0)) (words-one (a .a2 .0))) in
-    let t = behind-byte 0x53 (a .rd) (a .d) 26 (wordsBytes (a .y .0 ∷ a .e .0 ∷ a .s .0 ∷ a .a1 .0 ∷ us)) _ (h .head .ensures) (omega arith) (a .i) p
-    (omega (arith, words-length (a .y .0 ∷ a .e .0 ∷ a .s .0 ∷ a .a1 .0 ∷ us))) in
+    let l = h .head .last .0 in
+    let n : length l ≡ 26 = h .head .kept .0 ∙ refl in
+    let p =
+    put-words 6 22 ws us (set l 5 (a .i)) refl (omega (arith, length-set l 5 (a .i))) (q .put-four .ensures)
+    (w .put-word .ensures ∙ ap (λ (t : List ℕ). putAt 22 t (q .put-four .last .0)) (words-one (a .a2 .0)))
+    in
+    let t =
+    behind-byte 0x53 (a .rd) (a .d) 26 (wordsBytes (ws ++ us)) _ (h .head .ensures) (omega arith) (a .i) p
+    (omega (arith, words-length (ws ++ us)))
+    in
     c .challenge .ensures
     ∙ (λ j. exponentOf (s .pre .1 j) (hash ((sym (take-all 26 (w .put-word .last .0) (omega arith)) ∙ t) j)))
 
