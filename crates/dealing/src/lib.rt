@@ -1,5 +1,26 @@
 // Dealings and opened shares: the hashed messages, proofs of equal logarithms, writers and judges.
-use group::{Element, Exponent};
+mod logarithms;
+mod message;
+mod records;
+
+use group::Element;
+use group::Exponent;
+pub use logarithms::announced;
+pub use logarithms::announcements;
+pub use logarithms::equality_check;
+pub use logarithms::response;
+pub use message::check_polynomial;
+pub use message::dealing_challenge;
+pub use message::share_challenge;
+pub use records::all_keys;
+pub use records::column;
+pub use records::is_key;
+pub use records::is_key_record;
+pub use records::is_line_record;
+pub use records::is_opening_record;
+pub use records::is_secret_key;
+pub use records::is_share_record;
+pub use records::record_at;
 
 // A proof with lent figures that x1 is b1 and x2 is b2 to one exponent: the announcements a1 and a2, the challenge c, the response r.
 pub struct Equality {
