@@ -44,7 +44,7 @@ module _ (m : List ℕ) where
   pad-word-in k h = word-front m _ k h
 
   module _ (h : length m ≤ 65536) where
-    -- the message and the byte 128, then zeros, then the word that holds the length
+    -- such a message is followed by the byte 128, zeros, and a word that holds its length
     start : List ℕ
     start = m ++ 128 ∷ []
 
@@ -77,8 +77,8 @@ module _ (m : List ℕ) where
     pub pad-word-zero : (k : ℕ) → length m < k → k + 8 ≤ length (pad m) → wordAt (pad m) k ≡ 0
     unfolding wordAt
     pad-word-zero k a b =
-        let byte : (i : ℕ) → k ≤ i → i < k + 4 → getD (pad m) i 0 ≡ 0 = λ i x y. pad-zero i (omega arith) (omega arith) in
-        λ j. word (byte k (omega arith) (omega arith) j) (byte (k + 1) (omega arith) (omega arith) j) (byte (k + 2) (omega arith) (omega arith) j) (byte (k + 3) (omega arith) (omega arith) j)
+        let byte : (t : ℕ) → t < 4 → getD (pad m) (k + t) 0 ≡ 0 = λ t l. pad-zero (k + t) (omega arith) (omega arith) in
+        λ j. word (pad-zero k a (omega arith) j) (byte 1 (omega arith) j) (byte 2 (omega arith) j) (byte 3 (omega arith) j)
 
     pub pad-word-last : (k : ℕ) → k + 4 ≡ length (pad m) → wordAt (pad m) k ≡ 8 * length m
     unfolding wordBytes

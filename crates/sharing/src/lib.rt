@@ -2,7 +2,7 @@
 ghost use mathlib.Core.Path.{_≡_};
 ghost use Rattle.words.specs.Choice.{pick};
 ghost use Rattle.words.specs.Checks.{value, refused};
-ghost use Rattle.group.specs.Answer.{powerOutcomeOf};
+ghost use Rattle.group.specs.Answer.{elementOutcomeOf};
 ghost use Rattle.sharing.specs.Answer.{checkOutcomeOf, degreeOutcome, openingOutcome, recoveryOutcome};
 
 mod checks;
@@ -13,7 +13,7 @@ mod weights;
 pub use checks::round_group;
 use group::Exponent;
 use group::GroupAnswer;
-use group::PowerAnswer;
+use group::ElementAnswer;
 use group::all_elements;
 use group::all_exponents;
 use group::is_exponent;
@@ -101,22 +101,22 @@ pub fn opening(rd: Round, vs: &[u32], s: Exponent) -> CheckAnswer
 
 // The secret that the shares ss of the members ms give. Refused: 1 and 2 as round_group; 3 not one share to a member;
 // 8 fewer than t members, one outside 1 to n, or one twice; 6 a share that is no element.
-pub fn recovery(rd: Round, ms: &[u32], ss: &[u32]) -> PowerAnswer
-    ensures { λ r. ⌜ powerOutcomeOf r ≡ recoveryOutcome rd (now (ms .entry)) (now (ss .entry)) ⌝ }
+pub fn recovery(rd: Round, ms: &[u32], ss: &[u32]) -> ElementAnswer
+    ensures { λ r. ⌜ elementOutcomeOf r ≡ recoveryOutcome rd (now (ms .entry)) (now (ss .entry)) ⌝ }
 {
     match round_group(rd) {
-        GroupAnswer::Refused(k) => PowerAnswer::Refused(k),
+        GroupAnswer::Refused(k) => ElementAnswer::Refused(k),
         GroupAnswer::Value(gr) => {
             if ms.len() != ss.len() {
-                return PowerAnswer::Refused(3);
+                return ElementAnswer::Refused(3);
             }
             if !is_quorum(rd.n, rd.t, ms) {
-                return PowerAnswer::Refused(8);
+                return ElementAnswer::Refused(8);
             }
             if !all_elements(gr, ss) {
-                return PowerAnswer::Refused(6);
+                return ElementAnswer::Refused(6);
             }
-            PowerAnswer::Value(recovered_from(gr, ms, ss))
+            ElementAnswer::Value(recovered_from(gr, ms, ss))
         }
     }
 }
