@@ -5,6 +5,8 @@ pub mod Columns
 pub mod Buffers
 pub mod Digests
 pub mod Members
+pub mod Stages
+pub mod Opened
 pub mod Posted
 pub mod Challenges
 pub mod Equal

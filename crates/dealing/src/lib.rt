@@ -2,6 +2,7 @@
 mod logarithms;
 mod message;
 mod records;
+mod share;
 
 use group::Element;
 use group::Exponent;
@@ -21,6 +22,8 @@ pub use records::is_opening_record;
 pub use records::is_secret_key;
 pub use records::is_share_record;
 pub use records::record_at;
+pub use share::judge_share;
+pub use share::write_share;
 
 // A proof with lent figures that x1 is b1 and x2 is b2 to one exponent: the announcements a1 and a2, the challenge c, the response r.
 pub struct Equality {
