@@ -1,54 +1,45 @@
--- A dealer's lines stand together, since between the ranks of two of them there are only ranks of others. So the search for the
--- first and the search for the end of the run delimit exactly his lines, and n lines are those of the members 1 to n in order.
-use mathlib.Core.Path.{_≡_, refl, sym, ap, _∙_}
-use mathlib.Core.Bool.{Bool, true, false, not, _&&_}
-use mathlib.Core.List.{List, [], _∷_}
+-- A dealer's lines stand together, since a record between two of them has its rank between theirs. So the search for the first line
+-- and the search for the end of the run delimit exactly his lines, and n lines are those of the members 1 to n in order.
+use mathlib.Core.Path.{_≡_, sym, ap, _∙_}
+use mathlib.Core.Bool.{true, false, not}
+use mathlib.Core.List.{List}
 use mathlib.Core.Logic.{⊎-elim}
-use Prim.Native.Nat.{ℕ, zero, suc, _+_, _-_, _*_, _/_, _<_, _≤_}
+use Prim.Native.Nat.{ℕ, suc, _+_, _-_, _*_, _<_, _≤_}
 use native.Mathlib.Nat.{eq-or-lt-of-le}
 use native.Mathlib.Decide.{decLe}
 use native.Mathlib.Omega.{arith}
-use borrow.Author.Tests.{eq-eqb, eqb-true, not-true, not-false}
+use borrow.Author.Tests.{not-true, not-false}
 use lib.ListN.{length, take, drop, length-drop}
-use lib.Seq.{length-take-le, take-take, drop-drop}
-use lib.Dec.{eqb}
+use lib.Seq.{length-take-le, drop-drop}
 use Rattle.words.specs.Checks.{Met}
 use Rattle.words.specs.Bytes.{recordIn}
 use Rattle.words.specs.declared.Record.{Record}
-use Rattle.words.proofs.Tests.{false-true, and-true, true-and}
+use Rattle.words.proofs.Lists.{part-part}
+use Rattle.words.proofs.Tests.{false-true, equal-true, true-equal}
 use Rattle.sharing.specs.Round.{roundChecks}
 use Rattle.sharing.specs.declared.Round.{Round}
 use Rattle.sharing.proofs.Rounds.{ready}
 use Rattle.dealing.specs.Records.{recordAt, recordOf}
-use Rattle.board.specs.Search.{first, recordsIn}
-use Rattle.board.specs.Board.{isKind, formChecks, isLineBy, linesStart, linesEnd, lineCount, linesOf}
-use Rattle.board.specs.Claims.{ExactLines, LinesExact}
+use Rattle.board.specs.Search.{recordsIn}
+use Rattle.board.specs.Board.{formChecks, isLineBy, linesStart, linesEnd, lineCount, linesOf}
+use Rattle.board.specs.Claims.{LinesExact}
 use Rattle.board.proofs.Searches.{First, first-is, first-low, fills}
 use Rattle.board.proofs.Order.{Shaped, shapes, ranks}
-
--- a part of a part
-part-part : (m k n : ℕ) (xs : List ℕ) → k + m ≤ n → take m (drop k (take n xs)) ≡ take m (drop k xs)
-part-part m zero n xs h = take-take m n xs (omega arith)
-part-part m (suc k) zero xs h = absurd (omega arith)
-part-part m (suc k) (suc n) [] h = refl
-part-part m (suc k) (suc n) (x ∷ xs) h = part-part m k n xs (omega arith)
 
 module _ (b : List ℕ) (d : ℕ) where
   pub line-true : (i : ℕ) → isLineBy b d i ≡ true → (recordAt b i .w0 ≡ 2) × (recordAt b i .w1 ≡ d)
   unfolding isLineBy
-  line-true i e =
-      let s = and-true (isKind b 2 i) (eqb (recordAt b i .w1) d) e in
-      (eqb-true (recordAt b i .w0) 2 (s .0), eqb-true (recordAt b i .w1) d (s .1))
+  line-true i e = equal-true (recordAt b i .w0) 2 (recordAt b i .w1) d e
 
-  pub true-line : (i : ℕ) → recordAt b i .w0 ≡ 2 → recordAt b i .w1 ≡ d → isLineBy b d i ≡ true
+  true-line : (i : ℕ) → recordAt b i .w0 ≡ 2 → recordAt b i .w1 ≡ d → isLineBy b d i ≡ true
   unfolding isLineBy
-  true-line i k e = true-and (isKind b 2 i) (eqb (recordAt b i .w1) d) (eq-eqb (recordAt b i .w0) 2 k) (eq-eqb (recordAt b i .w1) d e)
+  true-line i k e = true-equal (recordAt b i .w0) 2 (recordAt b i .w1) d k e
 
   pub start-is : First (isLineBy b d) 0 (recordsIn b) (linesStart b d)
   unfolding linesStart
   start-is = first-is (isLineBy b d) 0 (recordsIn b)
 
-  pub end-is : First (λ i. not (isLineBy b d i)) (linesStart b d) (recordsIn b - linesStart b d) (linesEnd b d)
+  end-is : First (λ i. not (isLineBy b d i)) (linesStart b d) (recordsIn b - linesStart b d) (linesEnd b d)
   unfolding linesEnd
   end-is = first-is (λ i. not (isLineBy b d i)) (linesStart b d) (recordsIn b - linesStart b d)
 

@@ -2,19 +2,19 @@
 -- number, the rank, that grows from record to record; so equal ranks are one record.
 use mathlib.Core.Path.{_≡_, refl, sym, ap, _∙_, subst}
 use mathlib.Core.Bool.{Bool, true, false, _&&_}
-use mathlib.Core.List.{List, [], _∷_, _++_}
+use mathlib.Core.List.{List}
 use mathlib.Core.Logic.{_⊎_, inl, inr, ⊎-elim}
-use Prim.Native.Nat.{ℕ, zero, suc, _+_, _-_, _*_, _/_, _%_, _<_, _≤_}
+use Prim.Native.Nat.{ℕ, zero, suc, _+_, _-_, _*_, _<_, _≤_}
 use native.Mathlib.Nat.{eq-or-lt-of-le, not-suc-le-zero}
 use native.Mathlib.Decide.{decLe}
 use native.Mathlib.Omega.{arith}
 use borrow.Author.Tests.{ltb-true, eqb-true, ne-eqb}
-use lib.ListN.{length}
-use lib.Dec.{leb, ltb, eqb}
+use lib.Dec.{ltb, eqb}
 use Rattle.words.specs.Choice.{pick}
 use Rattle.words.specs.Lists.{all}
 use Rattle.words.specs.Checks.{Check, Met}
 use Rattle.words.specs.declared.Record.{Record}
+use Rattle.words.proofs.Lists.{All-parts}
 use Rattle.words.proofs.Tests.{false-true, and-true, pick-false}
 use Rattle.sharing.specs.Round.{groupIn, roundChecks, isMember, members}
 use Rattle.sharing.specs.declared.Round.{Round}
@@ -25,10 +25,6 @@ use Rattle.board.specs.Board.{isShaped, isAbove, recordChecks, formCheck
 use Rattle.board.proofs.Searches.{first-is, first-low}
 
 -- ---- the checks before verdicts, taken apart
-met-append : (cs ds : List Check) → Met (cs ++ ds) → Met cs × Met ds
-met-append [] ds m = (tt, m)
-met-append (c ∷ cs) ds m = let s = met-append cs ds (m .1) in ((m .0, s .0), s .1)
-
 pub record Reached (R : Round) (b : List ℕ) : Type 0 where
   pub round : Met (roundChecks R)
   pub form : Met (formChecks (R .n) b)
@@ -37,9 +33,8 @@ pub record Reached (R : Round) (b : List ℕ) : Type 0 where
 
 pub reached : (R : Round) (b : List ℕ) → Met (boardChecks R b) → Reached R b
 reached R b m =
-    let s = met-append (roundChecks R) (formChecks (R .n) b ++ keyChecks R b) m in
-    let u = met-append (formChecks (R .n) b) (keyChecks R b) (s .1) in
-    record { round = s .0; form = u .0; keys = u .1 .0; proper = u .1 .1 .0 }
+    let s = All-parts (λ (c : Check). c .met ≡ true) (formChecks (R .n) b) (keyChecks R b) (m .1 .1) in
+    record { round = (m .0, (m .1 .0, tt)); form = s .0; keys = s .1 .0; proper = s .1 .1 .0 }
 
 -- ---- one record
 pick-cases : (b x y : Bool) → pick b x y ≡ true → ((b ≡ true) × (x ≡ true)) ⊎ (y ≡ true)

@@ -1,19 +1,17 @@
 -- Two boards end in the same draw. On each, the secret of an accepted dealing is h to its polynomial's value at 0: a right opening
 -- is that value, and the t lowest members with accepted shares are a quorum. The value at 0 is the commitments' alone.
 use mathlib.Core.Path.{_≡_, sym, ap, _∙_, subst}
-use mathlib.Core.Bool.{Bool, true}
+use mathlib.Core.Bool.{true}
 use mathlib.Core.List.{List}
 use mathlib.Core.Logic.{⊎-elim}
-use Prim.Native.Nat.{ℕ, _+_, _<_, _≤_}
+use Prim.Native.Nat.{ℕ, _<_, _≤_}
 use native.Mathlib.Omega.{arith}
 use lib.ListN.{length, take}
 use lib.Seq.{length-take-le}
 use Rattle.words.specs.Lists.{All, map}
 use Rattle.words.specs.Checks.{value, Met}
-use Rattle.words.proofs.Lists.{All-to, map-length, map-all, map-same, map-comp, take-map}
+use Rattle.words.proofs.Lists.{All-to, All-take, map-length, map-all, map-same, map-comp, take-map}
 use Rattle.field.specs.Polynomial.{valueAt}
-use Rattle.group.specs.Power.{pow}
-use Rattle.group.specs.declared.Element.{Element}
 use Rattle.sharing.specs.Round.{groupIn, members}
 use Rattle.sharing.specs.Answer.{recovered}
 use Rattle.sharing.specs.Carried.{Carries, Quorum, secretOf, powersAt}
@@ -23,15 +21,13 @@ use Rattle.sharing.proofs.Secret.{recovered-secret}
 use Rattle.sharing.proofs.Theorems.{opening-exactly, secret-of-commitments}
 use Rattle.dealing.specs.Records.{recordAt}
 use Rattle.dealing.proofs.Members.{each-members}
-use Rattle.board.specs.Search.{filter, recordsIn}
+use Rattle.board.specs.Search.{recordsIn}
 use Rattle.board.specs.Board.{boardChecks}
-use Rattle.board.specs.Verdict.{Judges, judges, isAccepted, commitmentsOf, isShareBy, sharesBy, secretBy, verdictOn}
+use Rattle.board.specs.Verdict.{Judges, judges, isAccepted, commitmentsOf, isShareBy, sharesBy, secretBy}
 use Rattle.board.specs.Draw.{secretValue, drawOn}
-use Rattle.board.specs.Claims.{powerOfH, recoveredFrom, Ascending, acceptedDealers, productOf, SomeStuck, Recoverable, AllRecoverable, SameDealings, secretsOf, SameDraw, SameDrawHere}
-use Rattle.board.specs.declared.Secret.{Secret}
-use Rattle.board.specs.declared.Secret.the-variants.{Opened, Recovered, Stuck}
-use Rattle.board.specs.declared.Verdict.the-variants.{Accepted}
-use Rattle.board.proofs.Searches.{filter-all, filter-up, filter-same, take-every, take-ascending, ascending-distinct}
+use Rattle.board.specs.Claims.{powerOfH, recoveredFrom, Ascending, acceptedDealers, productOf, SomeStuck, Recoverable, AllRecoverable, secretsOf, SameDraw, SameDrawHere}
+use Rattle.board.specs.declared.Secret.the-variants.{Stuck}
+use Rattle.board.proofs.Searches.{filter-all, filter-up, filter-same, take-ascending, ascending-distinct}
 use Rattle.board.proofs.Order.{reached, shapes}
 use Rattle.board.proofs.VerdictCases.{Source, opened, recovers, stuck, source-of, share-true, shares-ascend, verdict-rules}
 use Rattle.board.proofs.Endings.{end-rules}
@@ -48,7 +44,7 @@ module _ (J : Judges) (R : Round) (b : List ℕ) (c : Met (boardChecks R b)) (d 
   serving-shares : All (λ i. (i < recordsIn b) × (isShareBy J R b d i ≡ true)) serving
   unfolding sharesBy
   serving-shares =
-      take-every (λ i. (i < recordsIn b) × (isShareBy J R b d i ≡ true)) (R .t) (sharesBy J R b d)
+      All-take (λ i. (i < recordsIn b) × (isShareBy J R b d i ≡ true)) (R .t) (sharesBy J R b d)
       (All-to (sharesBy J R b d) (λ i s. (omega (arith, s .0 .1), s .1)) (filter-up (isShareBy J R b d) 0 (recordsIn b)))
 
   serving-quorum : R .t ≤ length (sharesBy J R b d) → Quorum R (map memberIn serving)

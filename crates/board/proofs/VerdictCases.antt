@@ -1,20 +1,20 @@
 -- The rules of verdicts. A verdict has four cases, told by the number of lines and the judge's answer, and every rule looks them up.
 -- The opening that the search finds is the dealer's only one, so it is right exactly if some opening of his is.
-use mathlib.Core.Path.{_≡_, refl, sym, ap, _∙_, subst}
+use mathlib.Core.Path.{_≡_, refl, sym, ap, _∙_}
 use mathlib.Core.Bool.{Bool, true, false, _&&_}
-use mathlib.Core.List.{List, [], _∷_}
+use mathlib.Core.List.{List}
 use mathlib.Core.Logic.{_↔_, _⊎_, inl, inr, ⊎-elim}
-use Prim.Native.Nat.{ℕ, suc, _+_, _-_, _*_, _<_, _≤_}
+use Prim.Native.Nat.{ℕ, _+_, _*_, _<_, _≤_}
 use native.Mathlib.Decide.{decLe}
 use native.Mathlib.Omega.{arith}
-use borrow.Author.Tests.{eq-eqb, ne-eqb, eqb-true, eqb-false, lt-ltb, le-ltb, ltb-true, ltb-false}
+use borrow.Author.Tests.{ne-eqb, eqb-true, eqb-false, lt-ltb, ltb-true, ltb-false}
 use lib.ListN.{length, take}
 use lib.Dec.{ltb, eqb}
 use Rattle.words.specs.Choice.{pick}
 use Rattle.words.specs.Lists.{map}
 use Rattle.words.specs.Checks.{Outcome, value, refused, Met}
-use Rattle.words.specs.declared.Record.{Record}
-use Rattle.words.proofs.Tests.{false-true, and-true, true-and, pick-true, pick-false}
+use Rattle.words.proofs.Tests.{false-true, and-true, true-and, pick-true, pick-false, equal-true, true-equal}
+use Rattle.words.proofs.Checks.{value-refused}
 use Rattle.group.specs.declared.Element.{Element}
 use Rattle.sharing.specs.Answer.{openingOutcome}
 use Rattle.sharing.specs.Carried.{isValue}
@@ -22,8 +22,8 @@ use Rattle.sharing.specs.declared.Round.{Round}
 use Rattle.sharing.proofs.Rounds.{ready}
 use Rattle.sharing.proofs.Place.{is-value}
 use Rattle.dealing.specs.Records.{recordAt}
-use Rattle.board.specs.Search.{first, recordsIn}
-use Rattle.board.specs.Board.{isKind, boardChecks, linesStart, linesEnd, lineCount, isOpeningBy, openingRecord}
+use Rattle.board.specs.Search.{recordsIn}
+use Rattle.board.specs.Board.{isKind, boardChecks, linesStart, lineCount, isOpeningBy, openingRecord}
 use Rattle.board.specs.Verdict.{Judges, dealingAnswer, isAccepted, commitmentsOf, isShareBy, sharesBy, fromShares, isOpened, secretBy, verdictFrom, verdictOn}
 use Rattle.board.specs.Claims.{RightlyOpened, powerOfH, recoveredFrom, Ascending, VerdictRules}
 use Rattle.board.specs.declared.Secret.{Secret}
@@ -69,7 +69,7 @@ module _ (J : Judges) (R : Round) (b : List ℕ) (c : Met (boardChecks R b)) (d 
   no-lines h = elim (decLe (recordsIn b) (linesStart b d)) [
     | yes w ↦ omega (arith, lines-exact R b (reached R b c .round) (reached R b c .form) d .inside)
     | no w ↦
-      let l = line-true b d (linesStart b d) (start-is b d .here (omega arith)) in absurd (h (linesStart b d) (omega arith) (l .0) (l .1))
+        let l = line-true b d (linesStart b d) (start-is b d .here (omega arith)) in absurd (h (linesStart b d) (omega arith) (l .0) (l .1))
   ]
 
   some-lines : lineCount b d ≡ 0 → (i : ℕ) → i < recordsIn b → recordAt b i .w0 ≡ 2 → recordAt b i .w1 ≡ d → ⊥
@@ -79,11 +79,9 @@ module _ (J : Judges) (R : Round) (b : List ℕ) (c : Met (boardChecks R b)) (d 
   -- ---- the opening
   opening-true : (i : ℕ) → isOpeningBy b d i ≡ true → (recordAt b i .w0 ≡ 3) × (recordAt b i .w1 ≡ d)
   unfolding isOpeningBy
-  opening-true i e =
-      let s = and-true (isKind b 3 i) (eqb (recordAt b i .w1) d) e in
-      (eqb-true (recordAt b i .w0) 3 (s .0), eqb-true (recordAt b i .w1) d (s .1))
+  opening-true i e = equal-true (recordAt b i .w0) 3 (recordAt b i .w1) d e
 
-  pub only-opening : (o : RightlyOpened R b d) → o .at ≡ openingRecord b d
+  only-opening : (o : RightlyOpened R b d) → o .at ≡ openingRecord b d
   unfolding openingRecord isOpeningBy
   only-opening o =
       let r = reached R b c in
@@ -91,9 +89,9 @@ module _ (J : Judges) (R : Round) (b : List ℕ) (c : Met (boardChecks R b)) (d 
       only-first (R .n) b top (r .form) (isOpeningBy b d) (3072 + d * 32)
       (λ i h e. let s = opening-true i e in let z = shapes (R .n) b top (r .form) i h .opening (s .0) in omega arith)
       (o .at) (o .inside)
-      (true-and (isKind b 3 (o .at)) (eqb (recordAt b (o .at) .w1) d) (eq-eqb (recordAt b (o .at) .w0) 3 (o .kind)) (eq-eqb (recordAt b (o .at) .w1) d (o .dealer)))
+      (true-equal (recordAt b (o .at) .w0) 3 (recordAt b (o .at) .w1) d (o .kind) (o .dealer))
 
-  pub opened-right : isOpened R b d ≡ true → RightlyOpened R b d
+  opened-right : isOpened R b d ≡ true → RightlyOpened R b d
   unfolding isOpened openingRecord
   opened-right e =
       let s = and-true (ltb (openingRecord b d) (recordsIn b)) _ e in
@@ -101,7 +99,7 @@ module _ (J : Judges) (R : Round) (b : List ℕ) (c : Met (boardChecks R b)) (d 
       let k = opening-true (openingRecord b d) (first-is (isOpeningBy b d) 0 (recordsIn b) .here (omega arith)) in
       record { at = openingRecord b d; inside = h; kind = k .0; dealer = k .1; right = is-value _ (s .1) }
 
-  pub right-opened : RightlyOpened R b d → isOpened R b d ≡ true
+  right-opened : RightlyOpened R b d → isOpened R b d ≡ true
   unfolding isOpened
   right-opened o =
       let e = only-opening o in
@@ -159,9 +157,6 @@ none-refused e = let z : _≡_ {A = ℕ} 0 1 = cc in omega arith
 
 none-accepted : {s : Secret} → None ≡ Accepted s → ⊥
 none-accepted e = let z : _≡_ {A = ℕ} 0 1 = cc in omega arith
-
-value-refused : {k : ℕ} → _≡_ {A = Outcome Unit} (value tt) (refused k) → ⊥
-value-refused e = let z : _≡_ {A = ℕ} 0 1 = cc in omega arith
 
 refused-accepted : {k : ℕ} {s : Secret} → Refused k ≡ Accepted s → ⊥
 refused-accepted e = let z : _≡_ {A = ℕ} 0 1 = cc in omega arith
