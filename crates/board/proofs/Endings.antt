@@ -27,6 +27,7 @@ use Rattle.board.specs.Claims.{acceptedDealers, productOf, SomeStuck, Re
 use Rattle.board.specs.declared.Secret.the-variants.{Opened, Recovered, Stuck}
 use Rattle.board.specs.declared.Verdict.{Verdict}
 use Rattle.board.specs.declared.Verdict.the-variants.{None, Refused, Accepted}
+use Rattle.board.proofs.Order.{Formed, reached}
 use Rattle.board.proofs.VerdictCases.{Case, nothing, partial, rejected, passed, case-of}
 
 -- ---- refused before the verdicts
@@ -55,7 +56,7 @@ refused-before J R b k u =
     pick-false (eqb (refusal (boardChecks R b)) 0) _ _ (ne-eqb (refusal (boardChecks R b)) 0 (λ z. omega arith)) ∙ ap refused e
 
 -- ---- folds over the verdicts
-module _ (J : Judges) (R : Round) (b : List ℕ) (c : Met (boardChecks R b)) where
+module _ (J : Judges) {R : Round} {b : List ℕ} (F : Formed R b) where
   abbrev verdictsFor : List ℕ → List Verdict
   verdictsFor ds = map (verdictOn J R b) ds
 
@@ -67,25 +68,25 @@ module _ (J : Judges) (R : Round) (b : List ℕ) (c : Met (boardChecks R b)) whe
 
   counted : (ds : List ℕ) → countAccepted (verdictsFor ds) ≡ length (acceptedOf ds)
   counted [] = refl
-  counted (d ∷ ds) = by (case-of J R b c d) (counted ds)
+  counted (d ∷ ds) = by (case-of J F d) (counted ds)
     where
       by : Case J R b d → countAccepted (verdictsFor ds) ≡ length (acceptedOf ds)
           → countOne (verdictOn J R b d) + countAccepted (verdictsFor ds) ≡ length (pick (isAccepted J R b d) (d ∷ acceptedOf ds) (acceptedOf ds))
       by (nothing z a v) e = rw (v, a) (omega arith)
       by (partial n l a v) e = rw (v, a) (omega arith)
-      by (rejected n l k g a v) e = rw (v, a) (omega arith)
-      by (passed n l g a v) e = rw (v, a) (omega arith)
+      by (rejected l k g a v) e = rw (v, a) (omega arith)
+      by (passed l g a v) e = rw (v, a) (omega arith)
 
   multiplied : (p : ℕ) (ds : List ℕ) → secretsProduct p (verdictsFor ds) ≡ productOf p (map secretAt (acceptedOf ds))
   multiplied p [] = refl
-  multiplied p (d ∷ ds) = by (case-of J R b c d) (multiplied p ds)
+  multiplied p (d ∷ ds) = by (case-of J F d) (multiplied p ds)
     where
       by : Case J R b d → secretsProduct p (verdictsFor ds) ≡ productOf p (map secretAt (acceptedOf ds))
           → timesSecret p (verdictOn J R b d) (secretsProduct p (verdictsFor ds)) ≡ productOf p (map secretAt (pick (isAccepted J R b d) (d ∷ acceptedOf ds) (acceptedOf ds)))
       by (nothing z a v) e = rw (v, a) e
       by (partial n l a v) e = rw (v, a) e
-      by (rejected n l k g a v) e = rw (v, a) e
-      by (passed n l g a v) e = rw (v, a, e)
+      by (rejected l k g a v) e = rw (v, a) e
+      by (passed l g a v) e = rw (v, a, e)
 
 -- ---- a stuck verdict among many
 stuck-is : (v : Verdict) → isStuck v ≡ true → v ≡ Accepted Stuck
@@ -117,11 +118,14 @@ module _ (w : ℕ → Verdict) where
 
 -- ---- the end
 module _ (J : Judges) (R : Round) (b : List ℕ) (c : Met (boardChecks R b)) where
+  F : Formed R b
+  F = reached R b c .formed
+
   abbrev many : ℕ
   many = length (acceptedDealers J R b)
 
   count-is : countAccepted (verdictsOn J R b) ≡ many
-  count-is = counted J R b c (members (R .n))
+  count-is = counted J F (members (R .n))
 
   some-stuck : (anyStuck (verdictsOn J R b) ≡ true) ↔ SomeStuck J R b
   some-stuck = (
@@ -169,10 +173,10 @@ module _ (J : Judges) (R : Round) (b : List ℕ) (c : Met (boardChecks R b)) whe
       )
 
   value-draw : (v : Element) → (drawOn J R b ≡ value v)
-      ↔ ((R .t ≤ many) × (SomeStuck J R b → ⊥) × (v .0 ≡ productOf (groupIn R .p) (map (secretAt J R b c) (acceptedDealers J R b))))
+      ↔ ((R .t ≤ many) × (SomeStuck J R b → ⊥) × (v .0 ≡ productOf (groupIn R .p) (map (secretAt J F) (acceptedDealers J R b))))
   value-draw v =
       let n = count-is in
-      let p = multiplied J R b c (groupIn R .p) (members (R .n)) in (
+      let p = multiplied J F (groupIn R .p) (members (R .n)) in (
         λ e.
             let m = value-met lastChecks drawValue v (sym draw-is ∙ e) in (
               omega (arith, leb-true (R .t) (countAccepted (verdictsOn J R b)) (m .0 .0)),

@@ -8,7 +8,6 @@ use borrow.Author.Tests.{ltb-true}
 use lib.Dec.{ltb}
 use Rattle.words.proofs.Tests.{equal-true, true-equal, all-map}
 use Rattle.sharing.specs.Round.{groupIn, members}
-use Rattle.sharing.proofs.Rounds.{ready}
 use Rattle.dealing.specs.Records.{recordAt, isKey}
 use Rattle.dealing.proofs.Members.{members-exactly}
 use Rattle.board.specs.Search.{recordsIn}
@@ -30,16 +29,18 @@ pub keys-exact : KeysExact
 unfolding keyRecord
 keys-exact R b c m h l =
     let r = reached R b c in
-    let inside = ltb-true (keyRecord b m) (recordsIn b) (members-exactly (λ m. ltb (keyRecord b m) (recordsIn b)) (R .n) .0 (r .keys) m h l) in
+    let found = members-exactly (λ m. ltb (keyRecord b m) (recordsIn b)) (R .n) .0 (r .keys) m h l in
+    let inside = ltb-true (keyRecord b m) (recordsIn b) found in
     let k = key-true b m (keyRecord b m) (first-is (isKeyOf b m) 0 (recordsIn b) .here (omega arith)) in
-    let shape = shapes (R .n) b (ready R (r .round) .at-most) (r .form) in
     record {
       inside = inside;
       kind = k .0;
       member = k .1;
       only = λ i u e f.
-          only-first (R .n) b (ready R (r .round) .at-most) (r .form) (isKeyOf b m) (1024 + m)
-          (λ j v t. let s = key-true b m j t in let z = shape j v .key (s .0) in omega arith)
+          only-first (r .formed) (isKeyOf b m) (1024 + m)
+          (λ j v t. let s = key-true b m j t in let z = shapes (r .formed) j v .key (s .0) in omega arith)
           i u (true-key b m i e f);
-      proper = members-exactly (λ i. isKey (groupIn R) (keyIn b i)) (R .n) .0 (sym (all-map (isKey (groupIn R)) (keyIn b) (members (R .n))) ∙ r .proper) m h l;
+      proper =
+          members-exactly (λ i. isKey (groupIn R) (keyIn b i)) (R .n) .0
+          (sym (all-map (isKey (groupIn R)) (keyIn b) (members (R .n))) ∙ r .proper) m h l;
     }

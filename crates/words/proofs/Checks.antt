@@ -67,7 +67,7 @@ pub first-numbered : (cs : List Check) (k : ℕ) → Numbered cs → FirstUnmet 
 first-numbered [] k n u = absurd u
 first-numbered (c ∷ cs) k n u = ⊎-elim (λ w. subst (λ (i : ℕ). 0 < i) (w .1) (n .0)) (λ w. first-numbered cs k (n .1) (w .1)) u
 
-pub value-refused : {A : Type 0} {a : A} {k : ℕ} → value a ≡ refused k → ⊥
+value-refused : {A : Type 0} {a : A} {k : ℕ} → value a ≡ refused k → ⊥
 value-refused e = let z : _≡_ {A = ℕ} 0 1 = cc in omega arith
 
 pub value-met : {A : Type 0} (cs : List Check) (a b : A) → outcome cs a ≡ value b → Met cs × (a ≡ b)
