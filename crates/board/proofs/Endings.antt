@@ -1,62 +1,62 @@
 -- How a board ends. Count, product and stuck dealings are folds over the verdicts; by the cases of a verdict each is one over the
 -- accepted dealers. The rest is which of the two last checks is the first unmet one.
 use mathlib.Core.Path.{_≡_, refl, sym, ap, _∙_}
-use mathlib.Core.Bool.{Bool, true, false}
-use mathlib.Core.List.{List, [], _∷_, _++_, append-nil}
+use mathlib.Core.Bool.{Bool, true, false, not}
+use mathlib.Core.List.{List, [], _∷_}
 use mathlib.Core.Logic.{_↔_, inl, inr, ⊎-elim}
 use Prim.Native.Nat.{ℕ, zero, suc, _+_, _<_, _≤_}
 use native.Mathlib.Nat.{eq-or-lt-of-le}
 use native.Mathlib.Omega.{arith}
-use borrow.Author.Tests.{eq-eqb, eqb-true, leb-true, leb-false, le-leb, lt-leb}
+use borrow.Author.Tests.{eq-eqb, ne-eqb, not-true, not-false, leb-true, leb-false, le-leb, lt-leb}
 use lib.ListN.{length}
-use lib.Dec.{leb, eqb}
+use lib.Dec.{eqb}
 use Rattle.words.specs.Choice.{pick}
-use Rattle.words.specs.Lists.{All, map, upFrom}
-use Rattle.words.specs.Checks.{Check, value, refused, refusal, outcome, Met, FirstUnmet, Numbered}
+use Rattle.words.specs.Lists.{map, upFrom}
+use Rattle.words.specs.Checks.{Check, value, refused, refusal, outcome, Met, Numbered}
+use Rattle.words.proofs.Lists.{All-append}
 use Rattle.words.proofs.Tests.{false-true, pick-true, pick-false}
-use Rattle.words.proofs.Checks.{value-met, value-exactly, refused-exactly, none-exactly, refusal-append}
+use Rattle.words.proofs.Checks.{value-met, value-exactly, refused-exactly, none-exactly, first-exactly, first-numbered}
 use Rattle.group.specs.declared.Element.{Element}
-use Rattle.sharing.specs.Round.{groupIn, roundChecks, members}
+use Rattle.sharing.specs.Round.{groupIn, members}
 use Rattle.sharing.specs.declared.Round.{Round}
 use Rattle.board.specs.Search.{filter, recordsIn}
-use Rattle.board.specs.Board.{recordChecks, formChecks, keyChecks, boardChecks}
+use Rattle.board.specs.Board.{recordChecks, keyChecks, boardChecks}
 use Rattle.board.specs.Verdict.{Judges, isAccepted, secretBy, verdictOn, verdictsOn}
 use Rattle.board.specs.Draw.{countOne, countAccepted, isStuck, anyStuck, secretValue, timesSecret, secretsProduct, drawChecks, drawOf, drawOn}
 use Rattle.board.specs.Claims.{acceptedDealers, productOf, SomeStuck, RefusedBefore, EndRules}
 use Rattle.board.specs.declared.Secret.the-variants.{Opened, Recovered, Stuck}
 use Rattle.board.specs.declared.Verdict.{Verdict}
 use Rattle.board.specs.declared.Verdict.the-variants.{None, Refused, Accepted}
+use Rattle.board.proofs.Order.{Formed, reached}
 use Rattle.board.proofs.VerdictCases.{Case, nothing, partial, rejected, passed, case-of}
 
 -- ---- refused before the verdicts
-numbered-append : (cs ds : List Check) → Numbered cs → Numbered ds → Numbered (cs ++ ds)
-numbered-append [] ds m n = n
-numbered-append (c ∷ cs) ds m n = (m .0, numbered-append cs ds (m .1) n)
-
 records-numbered : (n : ℕ) (b : List ℕ) (i m : ℕ) → Numbered (recordChecks n b i m)
 records-numbered n b i zero = tt
 records-numbered n b i (suc m) = (omega arith, (omega arith, records-numbered n b (suc i) m))
 
 pub board-numbered : (R : Round) (b : List ℕ) → Numbered (boardChecks R b)
 board-numbered R b =
-    (omega arith, (omega arith, (omega arith,
-    numbered-append (recordChecks (R .n) b 0 (recordsIn b)) (keyChecks R b) (records-numbered (R .n) b 0 (recordsIn b)) (omega arith, (omega arith, tt)))))
+    let r = records-numbered (R .n) b 0 (recordsIn b) in (
+      omega arith,
+      (
+        omega arith,
+        (
+          omega arith,
+          All-append (λ (c : Check). 0 < c .number) (recordChecks (R .n) b 0 (recordsIn b)) (keyChecks R b) r (omega arith, (omega arith, tt)),
+        ),
+      ),
+    )
 
 pub refused-before : RefusedBefore
 unfolding drawOn
-refused-before J R b k u = by (eqb (refusal (boardChecks R b)) 0) refl
-  where
-    by : (x : Bool) → eqb (refusal (boardChecks R b)) 0 ≡ x
-        → pick x (drawOf (groupIn R .p) (R .t) (verdictsOn J R b)) (refused (refusal (boardChecks R b))) ≡ refused k
-    by true e =
-        let m = none-exactly (boardChecks R b) (board-numbered R b) .0 (eqb-true (refusal (boardChecks R b)) 0 e) in
-        let v = value-exactly Unit (boardChecks R b) tt .1 m in
-        let w = refused-exactly Unit (boardChecks R b) tt k .1 u in
-        absurd (let z : _≡_ {A = ℕ} 0 1 = cc in omega arith)
-    by false e = ap refused (ap refusal (sym (append-nil (boardChecks R b))) ∙ refusal-append (boardChecks R b) [] k u)
+refused-before J R b k u =
+    let h = first-numbered (boardChecks R b) k (board-numbered R b) u in
+    let e = first-exactly (boardChecks R b) k h .1 u in
+    pick-false (eqb (refusal (boardChecks R b)) 0) _ _ (ne-eqb (refusal (boardChecks R b)) 0 (λ z. omega arith)) ∙ ap refused e
 
 -- ---- folds over the verdicts
-module _ (J : Judges) (R : Round) (b : List ℕ) (c : Met (boardChecks R b)) where
+module _ (J : Judges) {R : Round} {b : List ℕ} (F : Formed R b) where
   abbrev verdictsFor : List ℕ → List Verdict
   verdictsFor ds = map (verdictOn J R b) ds
 
@@ -68,25 +68,25 @@ module _ (J : Judges) (R : Round) (b : List ℕ) (c : Met (boardChecks R b)) whe
 
   counted : (ds : List ℕ) → countAccepted (verdictsFor ds) ≡ length (acceptedOf ds)
   counted [] = refl
-  counted (d ∷ ds) = by (case-of J R b c d) (counted ds)
+  counted (d ∷ ds) = by (case-of J F d) (counted ds)
     where
       by : Case J R b d → countAccepted (verdictsFor ds) ≡ length (acceptedOf ds)
           → countOne (verdictOn J R b d) + countAccepted (verdictsFor ds) ≡ length (pick (isAccepted J R b d) (d ∷ acceptedOf ds) (acceptedOf ds))
       by (nothing z a v) e = rw (v, a) (omega arith)
       by (partial n l a v) e = rw (v, a) (omega arith)
-      by (rejected n l k g a v) e = rw (v, a) (omega arith)
-      by (passed n l g a v) e = rw (v, a) (omega arith)
+      by (rejected l k g a v) e = rw (v, a) (omega arith)
+      by (passed l g a v) e = rw (v, a) (omega arith)
 
   multiplied : (p : ℕ) (ds : List ℕ) → secretsProduct p (verdictsFor ds) ≡ productOf p (map secretAt (acceptedOf ds))
   multiplied p [] = refl
-  multiplied p (d ∷ ds) = by (case-of J R b c d) (multiplied p ds)
+  multiplied p (d ∷ ds) = by (case-of J F d) (multiplied p ds)
     where
       by : Case J R b d → secretsProduct p (verdictsFor ds) ≡ productOf p (map secretAt (acceptedOf ds))
           → timesSecret p (verdictOn J R b d) (secretsProduct p (verdictsFor ds)) ≡ productOf p (map secretAt (pick (isAccepted J R b d) (d ∷ acceptedOf ds) (acceptedOf ds)))
       by (nothing z a v) e = rw (v, a) e
       by (partial n l a v) e = rw (v, a) e
-      by (rejected n l k g a v) e = rw (v, a) e
-      by (passed n l g a v) e = rw (v, a, e)
+      by (rejected l k g a v) e = rw (v, a) e
+      by (passed l g a v) e = rw (v, a, e)
 
 -- ---- a stuck verdict among many
 stuck-is : (v : Verdict) → isStuck v ≡ true → v ≡ Accepted Stuck
@@ -116,21 +116,16 @@ module _ (w : ℕ → Verdict) where
       by true s r = refl
       by false s r = ⊎-elim (λ h. absurd (false-true (sym s ∙ ap (λ (j : ℕ). isStuck (w j)) h ∙ ap isStuck e))) r (eq-or-lt-of-le l)
 
-flipped : (x : Bool) → pick x false true ≡ false → x ≡ true
-flipped true e = refl
-flipped false e = sym e
-
-unflipped : (x : Bool) → pick x false true ≡ true → x ≡ false
-unflipped true e = sym e
-unflipped false e = refl
-
 -- ---- the end
 module _ (J : Judges) (R : Round) (b : List ℕ) (c : Met (boardChecks R b)) where
+  F : Formed R b
+  F = reached R b c .formed
+
   abbrev many : ℕ
   many = length (acceptedDealers J R b)
 
   count-is : countAccepted (verdictsOn J R b) ≡ many
-  count-is = counted J R b c (members (R .n))
+  count-is = counted J F (members (R .n))
 
   some-stuck : (anyStuck (verdictsOn J R b) ≡ true) ↔ SomeStuck J R b
   some-stuck = (
@@ -166,24 +161,26 @@ module _ (J : Judges) (R : Round) (b : List ℕ) (c : Met (boardChecks R b)) whe
         λ e. ⊎-elim
             (λ u. absurd (omega (arith, u .1)))
             (λ u. ⊎-elim
-            (λ v. (omega (arith, leb-true (R .t) (countAccepted (verdictsOn J R b)) (u .0)), some-stuck .0 (flipped (anyStuck (verdictsOn J R b)) (v .0))))
+            (λ v. (omega (arith, leb-true (R .t) (countAccepted (verdictsOn J R b)) (u .0)), some-stuck .0 (not-false (anyStuck (verdictsOn J R b)) (v .0))))
             (λ v. absurd (v .1))
             (u .1))
             (r .0 (sym draw-is ∙ e)),
         λ h. draw-is ∙ r .1
-            (inr (le-leb (R .t) (countAccepted (verdictsOn J R b)) (omega (arith, h .0)),
-            inl (ap (λ (x : Bool). pick x false true) (some-stuck .1 (h .1)), refl))),
+            (inr (
+              le-leb (R .t) (countAccepted (verdictsOn J R b)) (omega (arith, h .0)),
+              inl (ap not (some-stuck .1 (h .1)), refl),
+            )),
       )
 
   value-draw : (v : Element) → (drawOn J R b ≡ value v)
-      ↔ ((R .t ≤ many) × (SomeStuck J R b → ⊥) × (v .0 ≡ productOf (groupIn R .p) (map (secretAt J R b c) (acceptedDealers J R b))))
+      ↔ ((R .t ≤ many) × (SomeStuck J R b → ⊥) × (v .0 ≡ productOf (groupIn R .p) (map (secretAt J F) (acceptedDealers J R b))))
   value-draw v =
       let n = count-is in
-      let p = multiplied J R b c (groupIn R .p) (members (R .n)) in (
+      let p = multiplied J F (groupIn R .p) (members (R .n)) in (
         λ e.
             let m = value-met lastChecks drawValue v (sym draw-is ∙ e) in (
               omega (arith, leb-true (R .t) (countAccepted (verdictsOn J R b)) (m .0 .0)),
-              λ s. false-true (sym (unflipped (anyStuck (verdictsOn J R b)) (m .0 .1 .0)) ∙ some-stuck .1 s),
+              λ s. false-true (sym (not-true (anyStuck (verdictsOn J R b)) (m .0 .1 .0)) ∙ some-stuck .1 s),
               ap (λ (x : Element). x .0) (sym (m .1)) ∙ p,
             ),
         λ h.
@@ -193,7 +190,7 @@ module _ (J : Judges) (R : Round) (b : List ℕ) (c : Met (boardChecks R b)) whe
             ∙ (λ j. value (record { 0 = (p ∙ sym (h .2)) j })),
       )
     where
-      none-stuck : (x : Bool) → (x ≡ true → ⊥) → pick x false true ≡ true
+      none-stuck : (x : Bool) → (x ≡ true → ⊥) → not x ≡ true
       none-stuck true n = absurd (n refl)
       none-stuck false n = refl
 

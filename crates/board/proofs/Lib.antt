@@ -3,6 +3,7 @@ pub mod Searches
 pub mod Order
 pub mod KeyRecords
 pub mod LineRun
+pub mod Sources
 pub mod VerdictCases
 pub mod Endings
 pub mod TwoBoards

@@ -1,54 +1,43 @@
--- A dealer's lines stand together, since between the ranks of two of them there are only ranks of others. So the search for the
--- first and the search for the end of the run delimit exactly his lines, and n lines are those of the members 1 to n in order.
+-- A dealer's lines stand together, since a record between two of them has its rank between theirs. So the search for the first line
+-- and the search for the end of the run delimit exactly his lines, and n lines are those of the members 1 to n in order.
 use mathlib.Core.Path.{_≡_, refl, sym, ap, _∙_}
-use mathlib.Core.Bool.{Bool, true, false, not, _&&_}
-use mathlib.Core.List.{List, [], _∷_}
+use mathlib.Core.Bool.{true, false, not}
+use mathlib.Core.List.{List}
 use mathlib.Core.Logic.{⊎-elim}
-use Prim.Native.Nat.{ℕ, zero, suc, _+_, _-_, _*_, _/_, _<_, _≤_}
+use Prim.Native.Nat.{ℕ, suc, _+_, _-_, _*_, _<_, _≤_}
 use native.Mathlib.Nat.{eq-or-lt-of-le}
 use native.Mathlib.Decide.{decLe}
 use native.Mathlib.Omega.{arith}
-use borrow.Author.Tests.{eq-eqb, eqb-true, not-true, not-false}
+use borrow.Author.Tests.{not-true, not-false}
 use lib.ListN.{length, take, drop, length-drop}
-use lib.Seq.{length-take-le, take-take, drop-drop}
-use lib.Dec.{eqb}
-use Rattle.words.specs.Checks.{Met}
+use lib.Seq.{length-take-le, drop-drop}
 use Rattle.words.specs.Bytes.{recordIn}
 use Rattle.words.specs.declared.Record.{Record}
-use Rattle.words.proofs.Tests.{false-true, and-true, true-and}
-use Rattle.sharing.specs.Round.{roundChecks}
+use Rattle.words.proofs.Lists.{part-part}
+use Rattle.words.proofs.Tests.{false-true, equal-true, true-equal}
 use Rattle.sharing.specs.declared.Round.{Round}
 use Rattle.sharing.proofs.Rounds.{ready}
-use Rattle.dealing.specs.Records.{recordAt, recordOf}
-use Rattle.board.specs.Search.{first, recordsIn}
-use Rattle.board.specs.Board.{isKind, formChecks, isLineBy, linesStart, linesEnd, lineCount, linesOf}
+use Rattle.dealing.specs.Records.{recordAt}
+use Rattle.board.specs.Search.{recordsIn}
+use Rattle.board.specs.Board.{isLineBy, linesStart, linesEnd, lineCount, linesOf}
 use Rattle.board.specs.Claims.{ExactLines, LinesExact}
 use Rattle.board.proofs.Searches.{First, first-is, first-low, fills}
-use Rattle.board.proofs.Order.{Shaped, shapes, ranks}
-
--- a part of a part
-part-part : (m k n : ℕ) (xs : List ℕ) → k + m ≤ n → take m (drop k (take n xs)) ≡ take m (drop k xs)
-part-part m zero n xs h = take-take m n xs (omega arith)
-part-part m (suc k) zero xs h = absurd (omega arith)
-part-part m (suc k) (suc n) [] h = refl
-part-part m (suc k) (suc n) (x ∷ xs) h = part-part m k n xs (omega arith)
+use Rattle.board.proofs.Order.{Formed, Shaped, shapes, ranks}
 
 module _ (b : List ℕ) (d : ℕ) where
-  pub line-true : (i : ℕ) → isLineBy b d i ≡ true → (recordAt b i .w0 ≡ 2) × (recordAt b i .w1 ≡ d)
+  line-true : (i : ℕ) → isLineBy b d i ≡ true → (recordAt b i .w0 ≡ 2) × (recordAt b i .w1 ≡ d)
   unfolding isLineBy
-  line-true i e =
-      let s = and-true (isKind b 2 i) (eqb (recordAt b i .w1) d) e in
-      (eqb-true (recordAt b i .w0) 2 (s .0), eqb-true (recordAt b i .w1) d (s .1))
+  line-true i e = equal-true (recordAt b i .w0) 2 (recordAt b i .w1) d e
 
-  pub true-line : (i : ℕ) → recordAt b i .w0 ≡ 2 → recordAt b i .w1 ≡ d → isLineBy b d i ≡ true
+  true-line : (i : ℕ) → recordAt b i .w0 ≡ 2 → recordAt b i .w1 ≡ d → isLineBy b d i ≡ true
   unfolding isLineBy
-  true-line i k e = true-and (isKind b 2 i) (eqb (recordAt b i .w1) d) (eq-eqb (recordAt b i .w0) 2 k) (eq-eqb (recordAt b i .w1) d e)
+  true-line i k e = true-equal (recordAt b i .w0) 2 (recordAt b i .w1) d k e
 
-  pub start-is : First (isLineBy b d) 0 (recordsIn b) (linesStart b d)
+  start-is : First (isLineBy b d) 0 (recordsIn b) (linesStart b d)
   unfolding linesStart
   start-is = first-is (isLineBy b d) 0 (recordsIn b)
 
-  pub end-is : First (λ i. not (isLineBy b d i)) (linesStart b d) (recordsIn b - linesStart b d) (linesEnd b d)
+  end-is : First (λ i. not (isLineBy b d i)) (linesStart b d) (recordsIn b - linesStart b d) (linesEnd b d)
   unfolding linesEnd
   end-is = first-is (λ i. not (isLineBy b d i)) (linesStart b d) (recordsIn b - linesStart b d)
 
@@ -73,43 +62,39 @@ module _ (b : List ℕ) (d : ℕ) where
       (part-part 32 (32 * k) (32 * linesEnd b d - 32 * linesStart b d) (drop (32 * linesStart b d) b) (omega arith)
       ∙ ap (take 32) (drop-drop (32 * k) (32 * linesStart b d) b ∙ ap (λ (a : ℕ). drop a b) e))
 
-module _ (R : Round) (b : List ℕ) (r : Met (roundChecks R)) (m : Met (formChecks (R .n) b)) (d : ℕ) where
+module _ {R : Round} {b : List ℕ} (F : Formed R b) (d : ℕ) where
   in-run : (i : ℕ) → linesStart b d ≤ i → i < linesEnd b d → isLineBy b d i ≡ true
   in-run i h l = not-false (isLineBy b d i) (end-is b d .before i h l)
 
   -- between two lines there are lines
   between : (i j k : ℕ) → i < j → j < k → k < recordsIn b → isLineBy b d i ≡ true → isLineBy b d k ≡ true → isLineBy b d j ≡ true
   between i j k h l u e f =
-      let top = ready R r .at-most in
+      let top = ready R (F .round) .at-most in
       let li = line-true b d i e in
       let lk = line-true b d k f in
-      let ri = ranks (R .n) b top m i j h (omega arith) in
-      let rk = ranks (R .n) b top m j k l u in
-      let si = shapes (R .n) b top m i (omega arith) in
-      let sj = shapes (R .n) b top m j (omega arith) in
-      let sk = shapes (R .n) b top m k u in
+      let ri = ranks F i j h (omega arith) in
+      let rk = ranks F j k l u in
+      let si = shapes F i (omega arith) in
+      let sj = shapes F j (omega arith) in
+      let sk = shapes F k u in
       true-line b d j (omega arith) (omega arith)
 
-  whole-run : (i : ℕ) → i < recordsIn b → isLineBy b d i ≡ true → (linesStart b d ≤ i) × (i < linesEnd b d)
+  from-start : (i : ℕ) → isLineBy b d i ≡ true → linesStart b d ≤ i
   unfolding linesStart
-  whole-run i h e = (
-    first-low (isLineBy b d) 0 (recordsIn b) i (omega arith) e,
-    elim (decLe (linesEnd b d) i) [
-      | yes w ↦ absurd (after w)
-      | no w ↦ omega arith
-    ],
-  )
-    where
-      after : linesEnd b d ≤ i → ⊥
-      after w =
-          let a : linesStart b d ≤ i = first-low (isLineBy b d) 0 (recordsIn b) i (omega arith) e in
-          let z : isLineBy b d (linesEnd b d) ≡ false =
-          not-true (isLineBy b d (linesEnd b d)) (end-is b d .here (omega (arith, start-is b d .upto))) in
-          let s : isLineBy b d (linesStart b d) ≡ true = start-is b d .here (omega arith) in
-          let l : linesStart b d < linesEnd b d =
-          ⊎-elim (λ v. absurd (false-true (sym z ∙ ap (isLineBy b d) (sym v) ∙ s))) (λ v. v) (eq-or-lt-of-le (end-is b d .from)) in
-          let u : linesEnd b d < i = ⊎-elim (λ v. absurd (false-true (sym z ∙ ap (isLineBy b d) v ∙ e))) (λ v. v) (eq-or-lt-of-le w) in
-          false-true (sym z ∙ between (linesStart b d) (linesEnd b d) i l u h s e)
+  from-start i e = first-low (isLineBy b d) 0 (recordsIn b) i (omega arith) e
+
+  -- the record at the end of the run is no line, so none comes after it
+  to-end : (i : ℕ) → i < recordsIn b → isLineBy b d i ≡ true → linesEnd b d ≤ i → ⊥
+  to-end i h e w =
+      let a = from-start i e in
+      let z : isLineBy b d (linesEnd b d) ≡ false =
+      not-true (isLineBy b d (linesEnd b d)) (end-is b d .here (omega (arith, start-is b d .upto))) in
+      let s : isLineBy b d (linesStart b d) ≡ true = start-is b d .here (omega arith) in
+      let apart : (k : ℕ) → isLineBy b d k ≡ true → linesEnd b d ≡ k → ⊥ = λ k f v. false-true (sym z ∙ ap (isLineBy b d) v ∙ f) in
+      let l : linesStart b d < linesEnd b d =
+      ⊎-elim (λ v. absurd (apart (linesStart b d) s (sym v))) (λ v. v) (eq-or-lt-of-le (end-is b d .from)) in
+      let u : linesEnd b d < i = ⊎-elim (λ v. absurd (apart i e v)) (λ v. v) (eq-or-lt-of-le w) in
+      apart (linesEnd b d) (between (linesStart b d) (linesEnd b d) i l u h s e) refl
 
   -- the member of the k-th line
   abbrev memberAt : ℕ → ℕ
@@ -118,36 +103,40 @@ module _ (R : Round) (b : List ℕ) (r : Met (roundChecks R)) (m : Met (formChec
   member-places : lineCount b d ≡ R .n → (k : ℕ) → k < R .n → memberAt k ≡ suc k
   unfolding lineCount
   member-places c =
+      let some = ready R (F .round) .some in
       fills memberAt (R .n)
       (λ k h.
       let i = line k (omega arith) in
       let j = line (suc k) h in
-      let u = ranks (R .n) b top m (linesStart b d + k) (linesStart b d + suc k) (omega arith) (omega (arith, end-inside b d)) in
-      omega arith)
-      (shape 0 (omega (arith, ready R r .some)) .line (line 0 (omega (arith, ready R r .some)) .0))
+      omega (arith, ranks F (linesStart b d + k) (linesStart b d + suc k) (omega arith) (omega (arith, end-inside b d))))
+      (shape 0 (omega arith) .line (line 0 (omega arith) .0))
       (λ k h. shape k h .member)
     where
-      top : R .n ≤ 31
-      top = ready R r .at-most
-
       line : (k : ℕ) → k < R .n → (recordAt b (linesStart b d + k) .w0 ≡ 2) × (recordAt b (linesStart b d + k) .w1 ≡ d)
       line k h = line-true b d (linesStart b d + k) (in-run (linesStart b d + k) (omega arith) (omega arith))
 
       shape : (k : ℕ) → k < R .n → Shaped (R .n) (recordAt b (linesStart b d + k))
-      shape k h = shapes (R .n) b top m (linesStart b d + k) (omega (arith, end-inside b d))
+      shape k h = shapes F (linesStart b d + k) (omega (arith, end-inside b d))
 
-  by-places : lineCount b d ≡ R .n → (i : ℕ) → 1 ≤ i → i ≤ R .n → recordOf (linesOf b d) i .w2 ≡ i
-  by-places c i h l =
-      ap (λ (r : Record). r .w2) (part-record b d (i - 1) (omega arith)) ∙ member-places c (i - 1) (omega arith) ∙ omega arith
+  lines-of : ExactLines (R .n) b d
+  lines-of =
+      record {
+        inside = end-inside b d;
+        rising = end-is b d .from;
+        only-lines = λ i h l. line-true b d i (in-run i h l);
+        all-lines = λ i h k e.
+            let t = true-line b d i k e in (
+              from-start i t,
+              elim (decLe (linesEnd b d) i) [
+                | yes w ↦ absurd (to-end i h t w)
+                | no w ↦ omega arith
+              ],
+            );
+        size = part-size b d;
+        in-place = part-record b d;
+        by-member = λ c i h l.
+            ap (λ (r : Record). r .w2) (part-record b d (i - 1) (omega arith)) ∙ member-places c (i - 1) (omega arith) ∙ omega arith;
+      }
 
 pub lines-exact : LinesExact
-lines-exact R b r m d =
-    record {
-      inside = end-inside b d;
-      rising = end-is b d .from;
-      only-lines = λ i h l. line-true b d i (in-run R b r m d i h l);
-      all-lines = λ i h k e. whole-run R b r m d i h (true-line b d i k e);
-      size = part-size b d;
-      in-place = part-record b d;
-      by-member = by-places R b r m d;
-    }
+lines-exact R b r m d = lines-of (record { round = r; form = m }) d

@@ -2,22 +2,23 @@
 -- number, the rank, that grows from record to record; so equal ranks are one record.
 use mathlib.Core.Path.{_≡_, refl, sym, ap, _∙_, subst}
 use mathlib.Core.Bool.{Bool, true, false, _&&_}
-use mathlib.Core.List.{List, [], _∷_, _++_}
-use mathlib.Core.Logic.{_⊎_, inl, inr, ⊎-elim}
-use Prim.Native.Nat.{ℕ, zero, suc, _+_, _-_, _*_, _/_, _%_, _<_, _≤_}
-use native.Mathlib.Nat.{eq-or-lt-of-le, not-suc-le-zero}
+use mathlib.Core.List.{List}
+use mathlib.Core.Logic.{⊎-elim}
+use Prim.Native.Nat.{ℕ, zero, suc, _+_, _-_, _*_, _<_, _≤_}
+use native.Mathlib.Nat.{eq-or-lt-of-le, le-of-suc-le-suc, not-suc-le-zero}
 use native.Mathlib.Decide.{decLe}
 use native.Mathlib.Omega.{arith}
 use borrow.Author.Tests.{ltb-true, eqb-true, ne-eqb}
-use lib.ListN.{length}
-use lib.Dec.{leb, ltb, eqb}
+use lib.Dec.{ltb, eqb}
 use Rattle.words.specs.Choice.{pick}
 use Rattle.words.specs.Lists.{all}
 use Rattle.words.specs.Checks.{Check, Met}
 use Rattle.words.specs.declared.Record.{Record}
+use Rattle.words.proofs.Lists.{All-parts}
 use Rattle.words.proofs.Tests.{false-true, and-true, pick-false}
 use Rattle.sharing.specs.Round.{groupIn, roundChecks, isMember, members}
 use Rattle.sharing.specs.declared.Round.{Round}
+use Rattle.sharing.proofs.Rounds.{ready}
 use Rattle.dealing.specs.Records.{isKeyRecord, isLineRecord, isOpeningRecord, isShareRecord, recordAt, isKey}
 use Rattle.dealing.proofs.Members.{member-exactly}
 use Rattle.board.specs.Search.{first, recordsIn}
@@ -25,27 +26,21 @@ use Rattle.board.specs.Board.{isShaped, isAbove, recordChecks, formCheck
 use Rattle.board.proofs.Searches.{first-is, first-low}
 
 -- ---- the checks before verdicts, taken apart
-met-append : (cs ds : List Check) → Met (cs ++ ds) → Met cs × Met ds
-met-append [] ds m = (tt, m)
-met-append (c ∷ cs) ds m = let s = met-append cs ds (m .1) in ((m .0, s .0), s .1)
-
-pub record Reached (R : Round) (b : List ℕ) : Type 0 where
+pub record Formed (R : Round) (b : List ℕ) : Type 0 where
   pub round : Met (roundChecks R)
   pub form : Met (formChecks (R .n) b)
+
+pub record Reached (R : Round) (b : List ℕ) : Type 0 where
+  pub formed : Formed R b
   pub keys : all (λ m. ltb (keyRecord b m) (recordsIn b)) (members (R .n)) ≡ true
   pub proper : all (isKey (groupIn R)) (keysIn (R .n) b) ≡ true
 
 pub reached : (R : Round) (b : List ℕ) → Met (boardChecks R b) → Reached R b
 reached R b m =
-    let s = met-append (roundChecks R) (formChecks (R .n) b ++ keyChecks R b) m in
-    let u = met-append (formChecks (R .n) b) (keyChecks R b) (s .1) in
-    record { round = s .0; form = u .0; keys = u .1 .0; proper = u .1 .1 .0 }
+    let s = All-parts (λ (c : Check). c .met ≡ true) (formChecks (R .n) b) (keyChecks R b) (m .1 .1) in
+    record { formed = record { round = (m .0, (m .1 .0, tt)); form = s .0 }; keys = s .1 .0; proper = s .1 .1 .0 }
 
 -- ---- one record
-pick-cases : (b x y : Bool) → pick b x y ≡ true → ((b ≡ true) × (x ≡ true)) ⊎ (y ≡ true)
-pick-cases true x y e = inl (refl, e)
-pick-cases false x y e = inr e
-
 pub record Shaped (n : ℕ) (r : Record) : Type 0 where
   pub dealer : r .w1 ≤ n
   pub member : r .w2 ≤ n
@@ -55,63 +50,76 @@ pub record Shaped (n : ℕ) (r : Record) : Type 0 where
   pub share : r .w0 ≡ 4 → 1 ≤ r .w2
 
 module _ (n : ℕ) (r : Record) where
-  key-shaped : (isKeyRecord r ≡ true) × (isMember n (r .w2) ≡ true) → Shaped n r
+  key-shaped : isKeyRecord r ≡ true → isMember n (r .w2) ≡ true → Shaped n r
   unfolding isKeyRecord
-  key-shaped h =
-      let a = and-true (eqb (r .w0) 1) _ (h .0) in
+  key-shaped e h =
+      let a = and-true (eqb (r .w0) 1) _ e in
       let k = eqb-true (r .w0) 1 (a .0) in
       let d = eqb-true (r .w1) 0 (and-true (eqb (r .w1) 0) _ (a .1) .0) in
-      let m = member-exactly n (r .w2) .0 (h .1) in
+      let m = member-exactly n (r .w2) .0 h in
       record { dealer = omega arith; member = m .1; key = λ o. d; line = λ o. m .0; opening = λ o. absurd (omega arith); share = λ o. m .0 }
 
   -- a line or a share: dealer and member from 1 to n
-  both-shaped : (isMember n (r .w1) && isMember n (r .w2) ≡ true) → (r .w0 ≡ 2) ⊎ (r .w0 ≡ 4) → Shaped n r
-  both-shaped h k =
+  both-shaped : isMember n (r .w1) && isMember n (r .w2) ≡ true → (r .w0 ≡ 1 → ⊥) → (r .w0 ≡ 3 → ⊥) → Shaped n r
+  both-shaped h no-key no-opening =
       let a = and-true (isMember n (r .w1)) (isMember n (r .w2)) h in
       let d = member-exactly n (r .w1) .0 (a .0) in
       let m = member-exactly n (r .w2) .0 (a .1) in
-      let other : (r .w0 ≡ 1) ⊎ (r .w0 ≡ 3) → ⊥ = λ o. ⊎-elim (λ x. ⊎-elim (λ y. omega arith) (λ y. omega arith) k) (λ x. ⊎-elim (λ y. omega arith) (λ y. omega arith) k) o in
-      record { dealer = d .1; member = m .1; key = λ o. absurd (other (inl o)); line = λ o. m .0; opening = λ o. absurd (other (inr o)); share = λ o. m .0 }
+      record { dealer = d .1; member = m .1; key = λ o. absurd (no-key o); line = λ o. m .0; opening = λ o. absurd (no-opening o); share = λ o. m .0 }
 
-  opening-shaped : (isOpeningRecord r ≡ true) × (isMember n (r .w1) ≡ true) → Shaped n r
+  line-shaped : isLineRecord r ≡ true → isMember n (r .w1) && isMember n (r .w2) ≡ true → Shaped n r
+  unfolding isLineRecord
+  line-shaped e h =
+      let k = eqb-true (r .w0) 2 (and-true (eqb (r .w0) 2) _ e .0) in
+      both-shaped h (λ o. omega arith) (λ o. omega arith)
+
+  share-shaped : isShareRecord r ≡ true → isMember n (r .w1) && isMember n (r .w2) ≡ true → Shaped n r
+  unfolding isShareRecord
+  share-shaped e h =
+      let k = eqb-true (r .w0) 4 (and-true (eqb (r .w0) 4) _ e .0) in
+      both-shaped h (λ o. omega arith) (λ o. omega arith)
+
+  opening-shaped : isOpeningRecord r ≡ true → isMember n (r .w1) ≡ true → Shaped n r
   unfolding isOpeningRecord
-  opening-shaped h =
-      let a = and-true (eqb (r .w0) 3) _ (h .0) in
+  opening-shaped e h =
+      let a = and-true (eqb (r .w0) 3) _ e in
       let k = eqb-true (r .w0) 3 (a .0) in
       let m = eqb-true (r .w2) 0 (and-true (eqb (r .w2) 0) _ (a .1) .0) in
-      let d = member-exactly n (r .w1) .0 (h .1) in
-      record { dealer = d .1; member = omega arith; key = λ o. absurd (omega arith); line = λ o. absurd (omega arith); opening = λ o. m; share = λ o. absurd (omega arith) }
+      let d = member-exactly n (r .w1) .0 h in
+      record {
+        dealer = d .1;
+        member = omega arith;
+        key = λ o. absurd (omega arith);
+        line = λ o. absurd (omega arith);
+        opening = λ o. m;
+        share = λ o. absurd (omega arith);
+      }
 
-  line-kind : isLineRecord r ≡ true → r .w0 ≡ 2
-  unfolding isLineRecord
-  line-kind e = eqb-true (r .w0) 2 (and-true (eqb (r .w0) 2) _ e .0)
-
-  share-kind : isShareRecord r ≡ true → r .w0 ≡ 4
-  unfolding isShareRecord
-  share-kind e = eqb-true (r .w0) 4 (and-true (eqb (r .w0) 4) _ e .0)
-
-  pub shaped-true : isShaped n r ≡ true → Shaped n r
+  shaped-true : isShaped n r ≡ true → Shaped n r
   unfolding isShaped
   shaped-true e =
-      ⊎-elim key-shaped (λ x.
-      ⊎-elim (λ h. both-shaped (h .1) (inl (line-kind (h .0)))) (λ y.
-      ⊎-elim opening-shaped (λ z.
-      ⊎-elim (λ h. both-shaped (h .1) (inr (share-kind (h .0)))) (λ w. absurd (false-true w))
-      (pick-cases (isShareRecord r) _ _ z)) (pick-cases (isOpeningRecord r) _ _ y)) (pick-cases (isLineRecord r) _ _ x)) (pick-cases (isKeyRecord r) _ _ e)
+      pick-cases (isKeyRecord r) _ _ e key-shaped (λ x.
+      pick-cases (isLineRecord r) _ _ x line-shaped (λ y.
+      pick-cases (isOpeningRecord r) _ _ y opening-shaped (λ z.
+      pick-cases (isShareRecord r) _ _ z share-shaped (λ w. absurd (false-true w)))))
+    where
+      pick-cases : {P : Type 0} (b x y : Bool) → pick b x y ≡ true → (b ≡ true → x ≡ true → P) → (y ≡ true → P) → P
+      pick-cases true x y e f g = f refl e
+      pick-cases false x y e f g = g e
 
 -- ---- the rank of a record
-abbrev pub rank : Record → ℕ
+abbrev rank : Record → ℕ
 rank r = r .w0 * 1024 + r .w1 * 32 + r .w2
 
 above-rank : (n : ℕ) (r s : Record) → n ≤ 31 → Shaped n r → Shaped n s → isAbove r s ≡ true → rank r < rank s
 unfolding isAbove
-above-rank n r s l a b e = go (eqb (r .w0) (s .w0)) (eqb (r .w1) (s .w1)) refl refl e
+above-rank n r s l a b e = by (eqb (r .w0) (s .w0)) (eqb (r .w1) (s .w1)) refl refl e
   where
-    go : (x y : Bool) → eqb (r .w0) (s .w0) ≡ x → eqb (r .w1) (s .w1) ≡ y
+    by : (x y : Bool) → eqb (r .w0) (s .w0) ≡ x → eqb (r .w1) (s .w1) ≡ y
         → pick x (pick y (ltb (r .w2) (s .w2)) (ltb (r .w1) (s .w1))) (ltb (r .w0) (s .w0)) ≡ true → rank r < rank s
-    go true true k d e = omega (arith, eqb-true (r .w0) (s .w0) k, eqb-true (r .w1) (s .w1) d, ltb-true (r .w2) (s .w2) e)
-    go true false k d e = omega (arith, eqb-true (r .w0) (s .w0) k, ltb-true (r .w1) (s .w1) e)
-    go false y k d e = omega (arith, ltb-true (r .w0) (s .w0) e)
+    by true true k d e = omega (arith, eqb-true (r .w0) (s .w0) k, eqb-true (r .w1) (s .w1) d, ltb-true (r .w2) (s .w2) e)
+    by true false k d e = omega (arith, eqb-true (r .w0) (s .w0) k, ltb-true (r .w1) (s .w1) e)
+    by false y k d e = omega (arith, ltb-true (r .w0) (s .w0) e)
 
 -- ---- every record
 module _ (n : ℕ) (b : List ℕ) where
@@ -123,36 +131,39 @@ module _ (n : ℕ) (b : List ℕ) where
   records-met i (suc m) h x l u =
       ⊎-elim (λ w. subst Next w (h .0, h .1 .0)) (λ w. records-met (suc i) m (h .1 .1) x w (omega arith)) (eq-or-lt-of-le l)
 
-  module _ (few : n ≤ 31) (m : Met (formChecks n b)) where
-    pub shapes : (i : ℕ) → i < recordsIn b → Shaped n (recordAt b i)
-    shapes i h = shaped-true n (recordAt b i) (records-met 0 (recordsIn b) (m .1) i (omega arith) (omega arith) .0)
+module _ {R : Round} {b : List ℕ} (F : Formed R b) where
+  each-next : (i : ℕ) → i < recordsIn b → Next (R .n) b i
+  each-next i h = records-met (R .n) b 0 (recordsIn b) (F .form .1) i (omega arith) (omega arith)
 
-    next-rank : (i : ℕ) → suc i < recordsIn b → rank (recordAt b i) < rank (recordAt b (suc i))
-    next-rank i h =
-        let p : i ≡ suc i - 1 = omega arith in
-        above-rank n (recordAt b i) (recordAt b (suc i)) few (shapes i (omega arith)) (shapes (suc i) h)
-        (ap (λ (j : ℕ). isAbove (recordAt b j) (recordAt b (suc i))) p
-        ∙ sym (pick-false (eqb (suc i) 0) true _ (ne-eqb (suc i) 0 (λ e. omega arith)))
-        ∙ records-met 0 (recordsIn b) (m .1) (suc i) (omega arith) (omega arith) .1)
+  pub shapes : (i : ℕ) → i < recordsIn b → Shaped (R .n) (recordAt b i)
+  shapes i h = shaped-true (R .n) (recordAt b i) (each-next i h .0)
 
-    pub ranks : (i j : ℕ) → i < j → j < recordsIn b → rank (recordAt b i) < rank (recordAt b j)
-    ranks i zero h l = absurd (not-suc-le-zero h)
-    ranks i (suc j) h l =
-        ⊎-elim
-        (λ w. subst (λ y. rank (recordAt b y) < rank (recordAt b (suc j))) (sym w) (next-rank j l))
-        (λ w. let a = ranks i j w (omega arith) in let s = next-rank j l in omega arith)
-        (eq-or-lt-of-le (let g : i ≤ j = omega arith in g))
+  next-rank : (i : ℕ) → suc i < recordsIn b → rank (recordAt b i) < rank (recordAt b (suc i))
+  next-rank i h =
+      let p : i ≡ suc i - 1 = omega arith in
+      above-rank (R .n) (recordAt b i) (recordAt b (suc i)) (ready R (F .round) .at-most) (shapes i (omega arith)) (shapes (suc i) h)
+      (ap (λ (j : ℕ). isAbove (recordAt b j) (recordAt b (suc i))) p
+      ∙ sym (pick-false (eqb (suc i) 0) true _ (ne-eqb (suc i) 0 (λ e. omega arith)))
+      ∙ each-next (suc i) h .1)
 
-    pub same-rank : (i j : ℕ) → i < recordsIn b → j < recordsIn b → rank (recordAt b i) ≡ rank (recordAt b j) → i ≡ j
-    same-rank i j h l e = elim (decLe i j) [
-      | yes w ↦ ⊎-elim (λ x. x) (λ x. absurd (let a = ranks i j x l in omega arith)) (eq-or-lt-of-le w)
-      | no w ↦ absurd (let a = ranks j i (omega arith) h in omega arith)
-    ]
+  pub ranks : (i j : ℕ) → i < j → j < recordsIn b → rank (recordAt b i) < rank (recordAt b j)
+  ranks i zero h l = absurd (not-suc-le-zero h)
+  ranks i (suc j) h l =
+      ⊎-elim
+      (λ w. subst (λ y. rank (recordAt b y) < rank (recordAt b (suc j))) (sym w) (next-rank j l))
+      (λ w. let a = ranks i j w (omega arith) in let s = next-rank j l in omega arith)
+      (eq-or-lt-of-le (le-of-suc-le-suc h))
 
-    -- a search for records of one rank finds the only one
-    pub only-first : (f : ℕ → Bool) (r : ℕ) → ((i : ℕ) → i < recordsIn b → f i ≡ true → rank (recordAt b i) ≡ r)
-        → (i : ℕ) → i < recordsIn b → f i ≡ true → i ≡ first f 0 (recordsIn b)
-    only-first f r one i h e =
-        let l : first f 0 (recordsIn b) < recordsIn b = omega (arith, first-low f 0 (recordsIn b) i (omega arith) e) in
-        same-rank i (first f 0 (recordsIn b)) h l
-        (one i h e ∙ sym (one (first f 0 (recordsIn b)) l (first-is f 0 (recordsIn b) .here (omega arith))))
+  same-rank : (i j : ℕ) → i < recordsIn b → j < recordsIn b → rank (recordAt b i) ≡ rank (recordAt b j) → i ≡ j
+  same-rank i j h l e = elim (decLe i j) [
+    | yes w ↦ ⊎-elim (λ x. x) (λ x. absurd (let a = ranks i j x l in omega arith)) (eq-or-lt-of-le w)
+    | no w ↦ absurd (let a = ranks j i (omega arith) h in omega arith)
+  ]
+
+  -- a search for records of one rank finds the only one
+  pub only-first : (f : ℕ → Bool) (r : ℕ) → ((i : ℕ) → i < recordsIn b → f i ≡ true → rank (recordAt b i) ≡ r)
+      → (i : ℕ) → i < recordsIn b → f i ≡ true → i ≡ first f 0 (recordsIn b)
+  only-first f r one i h e =
+      let l : first f 0 (recordsIn b) < recordsIn b = omega (arith, first-low f 0 (recordsIn b) i (omega arith) e) in
+      same-rank i (first f 0 (recordsIn b)) h l
+      (one i h e ∙ sym (one (first f 0 (recordsIn b)) l (first-is f 0 (recordsIn b) .here (omega arith))))

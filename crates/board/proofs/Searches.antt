@@ -10,7 +10,7 @@ use native.Mathlib.Omega.{arith}
 use lib.ListN.{take}
 use Rattle.words.specs.Choice.{pick}
 use Rattle.words.specs.Lists.{All, Distinct, map, upFrom}
-use Rattle.words.proofs.Lists.{All-to, map-all, up-within}
+use Rattle.words.proofs.Lists.{All-to, All-take, map-all, up-within}
 use Rattle.words.proofs.Tests.{false-true}
 use Rattle.board.specs.Search.{first, filter}
 use Rattle.board.specs.Claims.{Ascending}
@@ -74,15 +74,10 @@ filter-ascending f g i (suc m) h = by (f i) refl (filter-ascending f g (suc i) m
         (map-all g (λ y. g i < y) rest (All-to rest (λ x s. h i x (s .0 .0) (omega (arith, s .0 .1)) e (s .1)) (filter-up f (suc i) m)), r)
     by false e r = r
 
-pub take-every : (P : ℕ → Type 0) (k : ℕ) (xs : List ℕ) → All P xs → All P (take k xs)
-take-every P zero xs h = tt
-take-every P (suc k) [] h = tt
-take-every P (suc k) (x ∷ xs) h = (h .0, take-every P k xs (h .1))
-
 pub take-ascending : (k : ℕ) (xs : List ℕ) → Ascending xs → Ascending (take k xs)
 take-ascending zero xs h = tt
 take-ascending (suc k) [] h = tt
-take-ascending (suc k) (x ∷ xs) h = (take-every (λ y. x < y) k xs (h .0), take-ascending k xs (h .1))
+take-ascending (suc k) (x ∷ xs) h = (All-take (λ y. x < y) k xs (h .0), take-ascending k xs (h .1))
 
 pub ascending-distinct : (xs : List ℕ) → Ascending xs → Distinct xs
 ascending-distinct [] h = tt

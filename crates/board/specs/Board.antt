@@ -1,12 +1,12 @@
 -- The board's records: their form and order, the keys, a dealer's lines and opening, and what is refused before verdicts.
 use mathlib.Core.Bool.{Bool, true, false, not, _&&_}
 use mathlib.Core.List.{List, [], _∷_, _++_}
-use Prim.Native.Nat.{ℕ, zero, suc, _+_, _-_, _*_, _%_}
+use Prim.Native.Nat.{ℕ, zero, suc, _-_, _*_, _%_}
 use lib.ListN.{length, take, drop}
 use lib.Dec.{leb, ltb, eqb}
 use Rattle.words.specs.Choice.{pick}
 use Rattle.words.specs.Lists.{map, all}
-use Rattle.words.specs.Checks.{Check, _unless_, refusal, lentAfter}
+use Rattle.words.specs.Checks.{Check, _unless_, lentAfter}
 use Rattle.words.specs.declared.Record.{Record}
 use Rattle.sharing.specs.Round.{groupIn, roundChecks, isMember, members}
 use Rattle.sharing.specs.declared.Round.{Round}

@@ -1,13 +1,12 @@
 -- What is claimed of boards: keys and lines, the rules of verdicts, how a board ends, and the last sentence of demand 3.
 use mathlib.Core.Path.{_≡_}
-use mathlib.Core.Bool.{Bool, true, false}
+use mathlib.Core.Bool.{true}
 use mathlib.Core.List.{List, [], _∷_}
 use mathlib.Core.Logic.{_⊎_, _↔_}
 use Prim.Native.Nat.{ℕ, _+_, _*_, _<_, _≤_}
 use lib.ListN.{length, take}
 use Rattle.words.specs.Lists.{All, map}
 use Rattle.words.specs.Checks.{value, refused, Met, FirstUnmet}
-use Rattle.words.specs.declared.Record.{Record}
 use Rattle.field.specs.Residue.{mul}
 use Rattle.field.specs.Polynomial.{valueAt}
 use Rattle.group.specs.Power.{pow}

@@ -1,19 +1,19 @@
 -- The count of accepted dealings, the draw value, and the board judge's answer.
 use mathlib.Core.Path.{_≡_}
-use mathlib.Core.Bool.{Bool, true, false}
+use mathlib.Core.Bool.{Bool, true, false, not}
 use mathlib.Core.List.{List, [], _∷_}
 use Prim.Native.Nat.{ℕ, _+_}
 use lib.ListN.{replicate}
-use lib.Dec.{leb, ltb, eqb}
+use lib.Dec.{leb, eqb}
 use Rattle.words.specs.Choice.{pick}
 use Rattle.words.specs.Lists.{map, upFrom}
 use Rattle.words.specs.Checks.{Check, _unless_, Outcome, value, refused, refusal, outcome}
 use Rattle.field.specs.Residue.{mul}
 use Rattle.group.specs.declared.Element.{Element}
-use Rattle.sharing.specs.Round.{groupIn, members}
+use Rattle.sharing.specs.Round.{groupIn}
 use Rattle.sharing.specs.declared.Round.{Round}
 use Rattle.board.specs.Board.{boardChecks}
-use Rattle.board.specs.Verdict.{Judges, judges, verdictOn, verdictsOn}
+use Rattle.board.specs.Verdict.{Judges, verdictOn, verdictsOn}
 use Rattle.board.specs.declared.Secret.{Secret}
 use Rattle.board.specs.declared.Secret.the-variants.{Opened, Recovered, Stuck}
 use Rattle.board.specs.declared.Verdict.{Verdict}
@@ -63,7 +63,7 @@ secretsProduct p (v ∷ vs) = timesSecret p v (secretsProduct p vs)
 
 -- ---- the draw: 14 fewer than t accepted, then 13 a stuck dealing
 abbrev pub drawChecks : ℕ → List Verdict → List Check
-drawChecks t vs = 14 unless leb t (countAccepted vs) ∷ 13 unless pick (anyStuck vs) false true ∷ []
+drawChecks t vs = 14 unless leb t (countAccepted vs) ∷ 13 unless not (anyStuck vs) ∷ []
 
 unfoldable pub drawOf : ℕ → ℕ → List Verdict → Outcome Element
 drawOf p t vs = outcome (drawChecks t vs) (record { 0 = secretsProduct p vs })

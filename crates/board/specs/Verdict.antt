@@ -1,13 +1,12 @@
 -- The verdict on each dealer. The two judges are a parameter: nothing here depends on how they work.
-use mathlib.Core.Bool.{Bool, true, false, _&&_}
-use mathlib.Core.List.{List, [], _∷_}
-use Prim.Native.Nat.{ℕ, zero, suc, _-_, _*_}
+use mathlib.Core.Bool.{Bool, _&&_}
+use mathlib.Core.List.{List}
+use Prim.Native.Nat.{ℕ, _*_}
 use lib.ListN.{length, take, drop}
-use lib.Dec.{leb, ltb, eqb}
+use lib.Dec.{ltb, eqb}
 use Rattle.words.specs.Choice.{pick}
 use Rattle.words.specs.Lists.{map, upFrom}
 use Rattle.words.specs.Checks.{Outcome, value, refused}
-use Rattle.words.specs.declared.Record.{Record}
 use Rattle.group.specs.Power.{pow}
 use Rattle.group.specs.declared.Element.{Element}
 use Rattle.sharing.specs.Round.{groupIn, members}
@@ -17,7 +16,7 @@ use Rattle.sharing.specs.declared.Round.{Round}
 use Rattle.dealing.specs.Records.{recordAt}
 use Rattle.dealing.specs.Dealing.{vsIn, YIn, judgeDealingOutcome}
 use Rattle.dealing.specs.Share.{judgeShareOutcome}
-use Rattle.board.specs.Search.{first, filter, recordsIn}
+use Rattle.board.specs.Search.{filter, recordsIn}
 use Rattle.board.specs.Board.{isKind, keyIn, keysIn, lineCount, linesOf, openingRecord}
 use Rattle.board.specs.declared.Secret.{Secret}
 use Rattle.board.specs.declared.Secret.the-variants.{Opened, Recovered, Stuck}

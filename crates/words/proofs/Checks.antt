@@ -63,7 +63,7 @@ decided (c ∷ cs) = by (c .met) refl (decided cs)
     by true e d = ⊎-elim (λ m. inl (e, m)) (λ u. inr (u .0, inr (e, u .1))) d
     by false e d = inr (c .number, inl (e, refl))
 
-first-numbered : (cs : List Check) (k : ℕ) → Numbered cs → FirstUnmet k cs → 0 < k
+pub first-numbered : (cs : List Check) (k : ℕ) → Numbered cs → FirstUnmet k cs → 0 < k
 first-numbered [] k n u = absurd u
 first-numbered (c ∷ cs) k n u = ⊎-elim (λ w. subst (λ (i : ℕ). 0 < i) (w .1) (n .0)) (λ w. first-numbered cs k (n .1) (w .1)) u
 

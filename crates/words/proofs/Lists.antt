@@ -1,12 +1,12 @@
 -- Laws on lists: facts of every element, maps, and runs of numbers.
 use mathlib.Core.Path.{_≡_, refl, ap, _∙_}
-use mathlib.Core.List.{List, [], _∷_}
+use mathlib.Core.List.{List, [], _∷_, _++_}
 use Prim.Native.Nat.{ℕ, zero, suc, _+_, _-_, _≤_, _<_}
 use native.Mathlib.Nat.{le-of-suc-le-suc, not-suc-le-zero}
 use native.Mathlib.Numerals.{add-one}
 use native.Mathlib.Omega.{arith}
 use lib.ListN.{length, getD, take, drop}
-use lib.Seq.{drop-cons}
+use lib.Seq.{drop-cons, take-take}
 use Rattle.words.specs.Lists.{All, Distinct, map, upFrom}
 
 -- ---- facts of every element
@@ -27,6 +27,26 @@ module _ {A : Type 0} where
   All-at P [] k d h a = absurd (not-suc-le-zero h)
   All-at P (x ∷ xs) zero d h a = a .0
   All-at P (x ∷ xs) (suc k) d h a = All-at P xs k d (le-of-suc-le-suc h) (a .1)
+
+  pub All-append : (P : A → Type 0) (xs ys : List A) → All P xs → All P ys → All P (xs ++ ys)
+  All-append P [] ys a b = b
+  All-append P (x ∷ xs) ys a b = (a .0, All-append P xs ys (a .1) b)
+
+  pub All-parts : (P : A → Type 0) (xs ys : List A) → All P (xs ++ ys) → All P xs × All P ys
+  All-parts P [] ys a = (tt, a)
+  All-parts P (x ∷ xs) ys a = let s = All-parts P xs ys (a .1) in ((a .0, s .0), s .1)
+
+  pub All-take : (P : A → Type 0) (k : ℕ) (xs : List A) → All P xs → All P (take k xs)
+  All-take P zero xs a = tt
+  All-take P (suc k) [] a = tt
+  All-take P (suc k) (x ∷ xs) a = (a .0, All-take P k xs (a .1))
+
+-- ---- a part of a part
+pub part-part : {A : Type 0} (m k n : ℕ) (xs : List A) → k + m ≤ n → take m (drop k (take n xs)) ≡ take m (drop k xs)
+part-part m zero n xs h = take-take m n xs (omega arith)
+part-part m (suc k) zero xs h = absurd (omega arith)
+part-part m (suc k) (suc n) [] h = refl
+part-part m (suc k) (suc n) (x ∷ xs) h = part-part m k n xs (omega arith)
 
 -- ---- what is left of a list, from an index on
 module _ {A : Type 0} (xs : List A) (k : ℕ) (d : A) where

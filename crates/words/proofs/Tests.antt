@@ -6,12 +6,12 @@ use mathlib.Core.List.{List, [], _∷_}
 use Prim.Native.Nat.{ℕ, zero, suc, _+_, _<_}
 use native.Mathlib.Nat.{le-of-suc-le-suc, not-suc-le-zero}
 use native.Mathlib.Omega.{arith}
-use borrow.Author.Tests.{eq-eqb, ne-eqb, eqb-false}
+use borrow.Author.Tests.{eq-eqb, ne-eqb, eqb-true, eqb-false}
 use lib.ListN.{length, getD, take, drop}
 use lib.Seq.{drop-length}
 use lib.Dec.{eqb}
 use Rattle.words.specs.Choice.{pick}
-use Rattle.words.specs.Lists.{All, Distinct, all, absent, noneTwice}
+use Rattle.words.specs.Lists.{All, Distinct, map, all, absent, noneTwice}
 use Rattle.words.proofs.Lists.{drop-next}
 
 pub false-true : false ≡ true → ⊥
@@ -23,6 +23,14 @@ and-true false b e = absurd (false-true e)
 
 pub true-and : (a b : Bool) → a ≡ true → b ≡ true → a && b ≡ true
 true-and a b e f = ap (λ (x : Bool). x && b) e ∙ f
+
+-- two equations
+module _ (a b x y : ℕ) where
+  pub equal-true : eqb a b && eqb x y ≡ true → (a ≡ b) × (x ≡ y)
+  equal-true e = let s = and-true (eqb a b) (eqb x y) e in (eqb-true a b (s .0), eqb-true x y (s .1))
+
+  pub true-equal : a ≡ b → x ≡ y → eqb a b && eqb x y ≡ true
+  true-equal e f = true-and (eqb a b) (eqb x y) (eq-eqb a b e) (eq-eqb x y f)
 
 module _ {A : Type 0} (b : Bool) (x y : A) where
   pub pick-true : b ≡ true → pick b x y ≡ x
@@ -45,6 +53,10 @@ module _ {A : Type 0} (f : A → Bool) where
   all-at [] i d h e = absurd (not-suc-le-zero h)
   all-at (x ∷ xs) zero d h e = and-true (f x) (all f xs) e .0
   all-at (x ∷ xs) (suc i) d h e = all-at xs i d (le-of-suc-le-suc h) (and-true (f x) (all f xs) e .1)
+
+  pub all-map : {B : Type 0} (g : B → A) (xs : List B) → all f (map g xs) ≡ all (λ x. f (g x)) xs
+  all-map g [] = refl
+  all-map g (x ∷ xs) = ap (λ (t : Bool). f (g x) && t) (all-map g xs)
 
   pub all-take : (k : ℕ) (xs : List A) → all f xs ≡ true → all f (take k xs) ≡ true
   all-take zero xs e = refl
