@@ -1,34 +1,22 @@
 // The judging of a dealing: the form of its lines, their figures, and the equations between them.
 ghost use mathlib.Core.Path.{_≡_};
-ghost use Prim.Native.Nat.{_*_, _<_, _≤_};
+ghost use mathlib.Core.Bool.{_&&_};
+ghost use Prim.Native.Nat.{_*_, _≤_};
 ghost use lib.Dec.{eqb};
 ghost use lib.ListN.{length, take, drop};
-ghost use Rattle.words.specs.Lists.{map, all};
+ghost use Rattle.words.specs.Lists.{all};
 ghost use Rattle.words.specs.Checks.{refusal, Met};
 ghost use Rattle.group.specs.Element.{isElement, isExponent};
 ghost use Rattle.sharing.specs.Round.{groupIn, roundChecks, members};
 ghost use Rattle.sharing.specs.Answer.{checkOutcomeOf, degreeProduct};
-ghost use Rattle.dealing.specs.Records.{wordOf};
 ghost use Rattle.dealing.specs.Message.{checkPolynomial};
-ghost use Rattle.dealing.specs.Dealing.{vIn, YIn, cIn, vsIn, isLineOf, recomputed, judgeDealingChecks, judgeDealingOutcome};
+ghost use Rattle.dealing.specs.Dealing.{vIn, YIn, rIn, cIn, vsIn, isLineOf, recomputed, judgeDealingChecks, judgeDealingOutcome};
+
 use crate::logarithms::announced;
-use crate::message::check_polynomial;
-use crate::message::dealing_challenge;
-use crate::records::all_keys;
-use crate::records::column;
-use crate::records::is_line_record;
-use crate::records::record_at;
-use group::Element;
-use group::Exponent;
-use group::Group;
-use group::GroupAnswer;
-use group::all_elements;
-use group::all_exponents;
-use sharing::CheckAnswer;
-use sharing::Round;
-use sharing::degree_product;
-use sharing::is_member;
-use sharing::round_group;
+use crate::message::{check_polynomial, dealing_challenge};
+use crate::records::{all_keys, column, is_line_record, record_at};
+use group::{Element, Exponent, Group, GroupAnswer, all_elements, all_exponents};
+use sharing::{CheckAnswer, Round, degree_product, is_member, round_group};
 
 // Whether the record of member i is a line of the dealer d for him. Internal: callers ensure that the record is there.
 fn is_line_of(d: u32, lines: &[u8], i: u32) -> bool
@@ -60,24 +48,30 @@ fn all_lines(d: u32, lines: &[u8], n: u32) -> bool
     true
 }
 
-// Whether the word k of each member's record is an element.
-// Internal: callers ensure that the bytes are n records, at most 31, and that k is below 8.
-fn elements_in(gr: Group, lines: &[u8], n: usize, k: usize) -> bool
-    requires { ⌜ (n ≤ 31) × (length (now lines) ≡ 32 * n) × (k < 8) ⌝ }
-    ensures { λ r. ⌜ r ≡ all (isElement gr) (map (wordOf k (now (lines .entry))) (members n)) ⌝ }
+// Whether v and Y of every line are elements. Internal: callers ensure that the bytes are n records, at most 31.
+fn elements_in(gr: Group, lines: &[u8], n: usize) -> bool
+    requires { ⌜ (n ≤ 31) × (length (now lines) ≡ 32 * n) ⌝ }
+    ensures { λ r. ⌜ r ≡ all (λ i. isElement gr (vIn (now (lines .entry)) i) && isElement gr (YIn (now (lines .entry)) i)) (members n) ⌝ }
 {
-    let a = column(lines, n, k);
-    all_elements(gr, &a[..n])
+    let vs = column(lines, n, 3);
+    if !all_elements(gr, &vs[..n]) {
+        return false;
+    }
+    let es = column(lines, n, 4);
+    all_elements(gr, &es[..n])
 }
 
-// Whether the word k of each member's record is an exponent below q.
-// Internal: callers ensure that the bytes are n records, at most 31, and that k is below 8.
-fn exponents_in(gr: Group, lines: &[u8], n: usize, k: usize) -> bool
-    requires { ⌜ (n ≤ 31) × (length (now lines) ≡ 32 * n) × (k < 8) ⌝ }
-    ensures { λ r. ⌜ r ≡ all (isExponent gr) (map (wordOf k (now (lines .entry))) (members n)) ⌝ }
+// Whether r and c of every line are below q. Internal: callers ensure that the bytes are n records, at most 31.
+fn exponents_in(gr: Group, lines: &[u8], n: usize) -> bool
+    requires { ⌜ (n ≤ 31) × (length (now lines) ≡ 32 * n) ⌝ }
+    ensures { λ r. ⌜ r ≡ all (λ i. isExponent gr (rIn (now (lines .entry)) i) && isExponent gr (cIn (now (lines .entry)) i)) (members n) ⌝ }
 {
-    let a = column(lines, n, k);
-    all_exponents(gr, &a[..n])
+    let rs = column(lines, n, 5);
+    if !all_exponents(gr, &rs[..n]) {
+        return false;
+    }
+    let cs = column(lines, n, 6);
+    all_exponents(gr, &cs[..n])
 }
 
 // Whether c is the challenge of every line. Internal: callers ensure that the bytes are n records.
@@ -165,16 +159,10 @@ fn figure_refusal(gr: Group, rd: Round, d: u32, ys: &[u32], lines: &[u8]) -> u32
     ensures { λ r. ⌜ r ≡ refusal (drop 6 (judgeDealingChecks rd d (now (ys .entry)) (now (lines .entry)))) ⌝ }
 {
     let n = rd.n as usize;
-    if !elements_in(gr, lines, n, 3) {
+    if !elements_in(gr, lines, n) {
         return 6;
     }
-    if !elements_in(gr, lines, n, 4) {
-        return 6;
-    }
-    if !exponents_in(gr, lines, n, 5) {
-        return 7;
-    }
-    if !exponents_in(gr, lines, n, 6) {
+    if !exponents_in(gr, lines, n) {
         return 7;
     }
     if !degree_passes(gr, rd, d, lines) {

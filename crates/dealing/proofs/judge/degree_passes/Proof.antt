@@ -1,5 +1,5 @@
 -- `degree_passes` meets its contract: the columns are the v and Y of every line, and tell the judge's own check polynomial.
-use mathlib.Core.Path.{_≡_, sym, ap, _∙_}
+use mathlib.Core.Path.{sym, ap, _∙_}
 use Prim.Native.Nat.{ℕ}
 use native.Mathlib.Omega.{arith}
 use borrow.Author.Needs.{needs}

@@ -6,6 +6,7 @@ use native.Mathlib.Omega.{arith}
 use borrow.Author.Needs.{needs}
 use lib.ListN.{length, getD}
 use lib.Seq.{length-take-le}
+use Rattle.group.specs.Element.{Proper}
 use Rattle.group.specs.declared.Group.{Group}
 use Rattle.sharing.proofs.Rounds.{ready}
 use Rattle.dealing.specs.Dealing.{vIn, YIn, rIn, cIn, recomputed}
@@ -25,12 +26,15 @@ abbrev secondOf : Group → List ℕ → List ℕ → ℕ → ℕ
 secondOf G ys b i = announced G (entry ys i) (YIn b i) (cIn b i) (rIn b i)
 
 abbrev Inv-loop : tie.InvT-loop
-Inv-loop gr rd d ys lines vs₀ es₀ a1s₀ a2s₀ i₀ vs es a1s a2s i =
+Inv-loop gr rd d ys lines vs₀ es₀ a1s₀ a2s₀ i₀ vs es a1s a2s i = 
     (i ≤ length ys) × (length ys ≤ 31)
     × HoldsFirst (vIn lines) i vs × HoldsFirst (YIn lines) i es × HoldsFirst (firstOf gr lines) i a1s × HoldsFirst (secondOf gr ys lines) i a2s
 
 abbrev μ-loop : tie.MeasureT-loop
 μ-loop gr rd d ys lines vs₀ es₀ a1s₀ a2s₀ i₀ vs es a1s a2s i = length ys - i
+
+proper : (s : tie.Start Inv-loop μ-loop) → Proper (s .args .gr)
+proper s = group-proper _ (s .pre .1) (s .pre .0)
 
 loop-holds : tie.Need-loop-holds Inv-loop μ-loop
 loop-holds c =
@@ -55,7 +59,7 @@ array-write-es c = search needs
 announced-requires : tie.Need-announced-requires Inv-loop μ-loop
 announced-requires c κs =
     let s = c .before .before .before .before .before in
-    group-proper (s .args .rd) (s .pre .1) (s .pre .0) .prime-p .above-one
+    proper s .prime-p .above-one
 
 mul-a1s : tie.Need-mul-a1s Inv-loop μ-loop
 mul-a1s c = search needs
@@ -72,7 +76,7 @@ shared-slice-read-t25 c = search needs
 announced-requires-2 : tie.Need-announced-requires-2 Inv-loop μ-loop
 announced-requires-2 c κs =
     let s = c .before .before .before .before .before .before .before in
-    group-proper (s .args .rd) (s .pre .1) (s .pre .0) .prime-p .above-one
+    proper s .prime-p .above-one
 
 mul-a2s : tie.Need-mul-a2s Inv-loop μ-loop
 mul-a2s c = search needs

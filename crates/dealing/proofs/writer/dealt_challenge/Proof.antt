@@ -7,6 +7,7 @@ use borrow.Author.Needs.{needs}
 use lib.ListN.{length, getD}
 use lib.Seq.{length-take-le}
 use Rattle.field.specs.Polynomial.{valueAt}
+use Rattle.group.specs.Element.{Proper}
 use Rattle.group.specs.Power.{pow}
 use Rattle.group.specs.declared.Group.{Group}
 use Rattle.sharing.proofs.Rounds.{ready}
@@ -26,12 +27,15 @@ abbrev secondOf : Group → List ℕ → List ℕ → ℕ → ℕ
 secondOf G ys ws i = pow (G .p) (entry ys i) (entry ws i)
 
 abbrev Inv-loop : tie.InvT-loop
-Inv-loop gr rd d ys cs ws vs₀ es₀ a1s₀ a2s₀ i₀ vs es a1s a2s i =
+Inv-loop gr rd d ys cs ws vs₀ es₀ a1s₀ a2s₀ i₀ vs es a1s a2s i = 
     (i ≤ length ys) × (length ys ≤ 31)
     × HoldsFirst (dealtV gr cs) i vs × HoldsFirst (dealtY gr ys cs) i es × HoldsFirst (firstOf gr ws) i a1s × HoldsFirst (secondOf gr ys ws) i a2s
 
 abbrev μ-loop : tie.MeasureT-loop
 μ-loop gr rd d ys cs ws vs₀ es₀ a1s₀ a2s₀ i₀ vs es a1s a2s i = length ys - i
+
+proper : (s : tie.Start Inv-loop μ-loop) → Proper (s .args .gr)
+proper s = group-proper _ (s .pre .1) (s .pre .0)
 
 loop-holds : tie.Need-loop-holds Inv-loop μ-loop
 loop-holds c =
@@ -59,7 +63,7 @@ shared-slice-read-t17-2 c = search needs
 power-at-requires : tie.Need-power-at-requires Inv-loop μ-loop
 power-at-requires c κs =
     let s = c .before .before .before .before .before .before .before in
-    let P = group-proper (s .args .rd) (s .pre .1) (s .pre .0) in
+    let P = proper s in
     (P .prime-p .above-one, omega (arith, P .prime-q .above-one))
 
 mul-vs : tie.Need-mul-vs Inv-loop μ-loop
@@ -71,7 +75,7 @@ array-write-vs c = search needs
 power-at-requires-2 : tie.Need-power-at-requires-2 Inv-loop μ-loop
 power-at-requires-2 c κs =
     let s = c .before .before .before .before .before .before .before .before in
-    let P = group-proper (s .args .rd) (s .pre .1) (s .pre .0) in
+    let P = proper s in
     (P .prime-p .above-one, omega (arith, P .prime-q .above-one))
 
 mul-es : tie.Need-mul-es Inv-loop μ-loop
@@ -83,7 +87,7 @@ array-write-es c = search needs
 power-requires : tie.Need-power-requires Inv-loop μ-loop
 power-requires c κs =
     let s = c .before .before .before .before .before .before .before .before .before in
-    group-proper (s .args .rd) (s .pre .1) (s .pre .0) .prime-p .above-one
+    proper s .prime-p .above-one
 
 mul-a1s : tie.Need-mul-a1s Inv-loop μ-loop
 mul-a1s c = search needs
@@ -94,7 +98,7 @@ array-write-a1s c = search needs
 power-requires-2 : tie.Need-power-requires-2 Inv-loop μ-loop
 power-requires-2 c κs =
     let s = c .before .before .before .before .before .before .before .before .before .before in
-    group-proper (s .args .rd) (s .pre .1) (s .pre .0) .prime-p .above-one
+    proper s .prime-p .above-one
 
 mul-a2s : tie.Need-mul-a2s Inv-loop μ-loop
 mul-a2s c = search needs
