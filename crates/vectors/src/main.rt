@@ -2,9 +2,13 @@
 //
 // A case has a header of eight words: the operation's number, six arguments and the payload's length in bytes.
 // The payload follows.
+mod degree;
 mod digest;
+mod opening;
+mod payload;
 mod power;
 mod print;
+mod recovery;
 
 use libc::STDIN_FILENO;
 use words::Record;
@@ -23,6 +27,9 @@ fn run(case: Record, space: &mut [u8], count: usize) -> bool {
     match operation {
         1 => digest::run(case, space, count),
         2 => power::run(case),
+        3 => degree::run(case, space),
+        4 => opening::run(case, space),
+        5 => recovery::run(case, space),
         _ => false,
     }
 }

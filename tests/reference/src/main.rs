@@ -6,7 +6,9 @@ mod group;
 mod modular;
 mod numbers;
 mod primes;
+mod round;
 mod sha256;
+mod sharing;
 mod vectors;
 
 use std::error::Error;

@@ -5,8 +5,13 @@
 //! follows. Where an operation has more figures than the header holds, they are the first words of its payload.
 //! The text has a line for each case: the operation's name, and its value or `refused` with its number.
 
+mod degree;
 pub mod digest;
+mod faults;
+mod opening;
 mod power;
+mod recovery;
+mod sample;
 
 use crate::answer::Answer;
 
@@ -23,25 +28,35 @@ pub struct Vectors {
 }
 
 impl Vectors {
-    /// Adds a case with what the operation answers to it.
+    /// Adds a case with what the operation answers to it. Returns the number that it is refused by.
     fn add(
         &mut self,
         operation: &Operation,
         arguments: &[u32],
         payload: &[u8],
         answer: Answer<String>,
-    ) {
+    ) -> Option<u32> {
         let mut header = [0; 8];
         header[0] = operation.number;
         header[1..7][..arguments.len()].copy_from_slice(arguments);
         header[7] = payload.len() as u32;
-        for word in header {
-            self.stdin.extend(word.to_be_bytes());
-        }
+        self.stdin.extend(bytes(&header));
         self.stdin.extend(payload);
+        let refusal = answer.as_ref().err().copied();
         let answer = answer.unwrap_or_else(|number| format!("refused {number}"));
         self.stdout += &format!("{} {answer}\n", operation.name);
+        refusal
     }
+}
+
+/// The text of an answer that has no value.
+fn passed(answer: Answer<()>) -> Answer<String> {
+    answer.map(|()| "passed".to_string())
+}
+
+/// The bytes of words, the most significant first.
+fn bytes(words: &[u32]) -> Vec<u8> {
+    words.iter().flat_map(|word| word.to_be_bytes()).collect()
 }
 
 /// Every case, operation by operation.
@@ -49,6 +64,9 @@ pub fn all() -> Vectors {
     let mut vectors = Vectors::default();
     digest::add(&mut vectors);
     power::add(&mut vectors);
+    degree::add(&mut vectors);
+    opening::add(&mut vectors);
+    recovery::add(&mut vectors);
     vectors
 }
 
