@@ -1,4 +1,13 @@
 // The board: its shape, a dealer's lines, verdicts, the draw value and the text that reports them.
+mod form;
+mod keys;
+mod lines;
+mod search;
+
+pub use keys::board_refusal;
+pub use lines::{dealer_lines, lines_check};
+pub use search::records;
+
 use group::Element;
 
 // How the secret of an accepted dealing came.
