@@ -8,3 +8,4 @@ pub mod VerdictCases
 pub mod Endings
 pub mod TwoBoards
 pub mod Demand3
+pub mod Steps
