@@ -9,3 +9,4 @@ pub mod Endings
 pub mod TwoBoards
 pub mod Demand3
 pub mod Steps
+pub mod Numbers

@@ -41,7 +41,7 @@ module _ (b : List ℕ) (d : ℕ) where
   unfolding linesEnd
   end-is = first-is (λ i. not (isLineBy b d i)) (linesStart b d) (recordsIn b - linesStart b d)
 
-  end-inside : linesEnd b d ≤ recordsIn b
+  pub end-inside : linesEnd b d ≤ recordsIn b
   end-inside = omega (arith, start-is .upto, end-is .upto)
 
   -- ---- the part's bytes
