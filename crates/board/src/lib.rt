@@ -4,9 +4,7 @@ mod keys;
 mod lines;
 mod search;
 
-pub use keys::board_refusal;
 pub use lines::{dealer_lines, lines_check};
-pub use search::records;
 
 use group::Element;
 

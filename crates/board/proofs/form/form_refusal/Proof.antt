@@ -8,10 +8,6 @@ use lib.Dec.{leb}
 use Rattle.board.specs.Search.{recordsIn}
 use Rattle.board.proofs.form.form_refusal.Statement.{statement}
 use Rattle.board.proofs.form.form_refusal.Tie as tie
-use Rattle.board.proofs.form.form_refusal.Reads as reads
-use Rattle.board.proofs.form.form_refusal.Lts as lts
-use Rattle.board.proofs.form.records_refusal.Reads as records-refusal-reads
-use Rattle.board.proofs.search.records.Reads as records-reads
 
 returns : tie.Need-returns
 returns c = simp (ne-eqb _ 0 (c .if1 .taken))

@@ -3,8 +3,6 @@ use borrow.Author.Tests.{eq-eqb, ne-eqb}
 use Rattle.board.specs.Board.{isAbove}
 use Rattle.board.proofs.form.is_above.Statement.{statement}
 use Rattle.board.proofs.form.is_above.Tie as tie
-use Rattle.board.proofs.form.is_above.Reads as reads
-use Rattle.board.proofs.form.is_above.Lts as lts
 
 returns : tie.Need-returns
 unfolding isAbove

@@ -3,13 +3,6 @@ use borrow.Author.Needs.{needs}
 use Rattle.board.specs.Board.{isShaped}
 use Rattle.board.proofs.form.is_shaped.Statement.{statement}
 use Rattle.board.proofs.form.is_shaped.Tie as tie
-use Rattle.board.proofs.form.is_shaped.Reads as reads
-use Rattle.board.proofs.form.is_shaped.Lts as lts
-use Rattle.dealing.proofs.is_key_record.Reads as is-key-record-reads
-use Rattle.dealing.proofs.is_line_record.Reads as is-line-record-reads
-use Rattle.dealing.proofs.is_opening_record.Reads as is-opening-record-reads
-use Rattle.dealing.proofs.is_share_record.Reads as is-share-record-reads
-use Rattle.sharing.proofs.is_member.Reads as is-member-reads
 
 is-key-record-requires : tie.Need-is-key-record-requires
 is-key-record-requires c κs = search needs

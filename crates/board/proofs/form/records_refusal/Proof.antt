@@ -1,25 +1,17 @@
 -- `records_refusal` meets its contract. The loop's invariant: the records from i on are refused as all of them are.
-use mathlib.Core.Path.{_≡_, refl, sym, ap, _∙_}
-use mathlib.Core.Bool.{true, false}
+use mathlib.Core.Path.{_≡_, sym, ap, _∙_}
+use mathlib.Core.Bool.{true}
 use mathlib.Core.Logic.{⊎-elim}
 use Prim.Native.Nat.{ℕ, _-_}
 use native.Mathlib.Omega.{arith}
-use native.Mathlib.Nat.{sub-zero}
 use borrow.Author.Needs.{needs}
 use borrow.Author.Tests.{not-true, not-false}
 use Rattle.words.specs.Checks.{refusal}
-use Rattle.dealing.specs.Records.{recordAt}
 use Rattle.board.specs.Search.{recordsIn}
-use Rattle.board.specs.Board.{isShaped, isAbove, recordChecks}
-use Rattle.board.proofs.Steps.{from, inOrder, refused-four, refused-five, passed, all-passed, later, earliest}
+use Rattle.board.specs.Board.{recordChecks}
+use Rattle.board.proofs.Steps.{inOrder, shape-found, order-found, order-first, unshaped, unordered, record-passed, records-passed}
 use Rattle.board.proofs.form.records_refusal.Statement.{statement}
 use Rattle.board.proofs.form.records_refusal.Tie as tie
-use Rattle.board.proofs.form.records_refusal.Reads as reads
-use Rattle.board.proofs.form.records_refusal.Lts as lts
-use Rattle.board.proofs.form.is_above.Reads as is-above-reads
-use Rattle.board.proofs.form.is_shaped.Reads as is-shaped-reads
-use Rattle.board.proofs.search.records.Reads as records-reads
-use Rattle.dealing.proofs.record_at.Reads as record-at-reads
 
 abbrev Inv-loop : tie.InvT-loop
 Inv-loop n b all i₀ i = (all ≡ recordsIn b) × (refusal (recordChecks n b 0 (recordsIn b)) ≡ refusal (recordChecks n b i (all - i)))
@@ -47,9 +39,8 @@ returns c =
     let w = c .before .before .before in
     let l = w .before .loop in
     let a = w .before .before .before .before .args in
-    let s : isShaped (a .n) (recordAt (a .b .now) (l .i)) ≡ false =
-    ap (isShaped (a .n)) (sym (c .before .before .record-at .ensures)) ∙ sym (c .before .is-shaped .ensures) ∙ not-true _ (c .if1 .taken) in
-    sym (l .inv .1 ∙ refused-four (a .n) (a .b .now) (w .before .before .records .result) (l .i) (w .loop-test .taken) s)
+    let s = shape-found (a .b .now) (l .i) (c .before .before .record-at .ensures) (a .n) (c .before .is-shaped .ensures) (not-true _ (c .if1 .taken)) in
+    sym (l .inv .1 ∙ unshaped (a .n) (a .b .now) (w .before .before .records .result) (l .i) (w .loop-test .taken) s)
 
 sub-record-at : tie.Need-sub-record-at Inv-loop μ-loop
 sub-record-at c = search needs
@@ -66,12 +57,12 @@ returns-2 c =
     let w = v .before .before .before in
     let l = w .before .loop in
     let a = w .before .before .before .before .args in
-    let b = a .b .now in
-    let r : c .before .before .before .before .before .before .record-at .result ≡ recordAt b (l .i) = v .before .before .record-at .ensures in
-    let s : isShaped (a .n) (recordAt b (l .i)) ≡ true = ap (isShaped (a .n)) (sym r) ∙ sym (v .before .is-shaped .ensures) ∙ not-false _ (v .if1 .left) in
-    let t : isAbove (recordAt b (l .i - 1)) (recordAt b (l .i)) ≡ false =
-    (λ j. isAbove (sym (c .before .before .record-at2 .ensures) j) (sym r j)) ∙ sym (c .before .is-above .ensures) ∙ not-true _ (c .if3 .taken) in
-    sym (l .inv .1 ∙ refused-five (a .n) b (w .before .before .records .result) (l .i) (w .loop-test .taken) s (later b (l .i) false (c .before .before .before .if2 .taken) t))
+    let r = v .before .before .record-at .ensures in
+    let s = shape-found (a .b .now) (l .i) r (a .n) (v .before .is-shaped .ensures) (not-false _ (v .if1 .left)) in
+    let o =
+    order-found (a .b .now) (l .i) r (c .before .before .before .if2 .taken) (c .before .before .record-at2 .ensures) (c .before .is-above .ensures)
+    (not-true _ (c .if3 .taken)) in
+    sym (l .inv .1 ∙ unordered (a .n) (a .b .now) (w .before .before .records .result) (l .i) (w .loop-test .taken) s o)
 
 add-i : tie.Need-add-i Inv-loop μ-loop
 add-i c = search needs
@@ -85,21 +76,20 @@ loop-again c =
     let w = v .before .before .before in
     let l = w .before .loop in
     let a = w .before .before .before .before .args in
-    let b = a .b .now in
     let r = v .before .before .record-at .ensures in
-    let s : isShaped (a .n) (recordAt b (l .i)) ≡ true = ap (isShaped (a .n)) (sym r) ∙ sym (v .before .is-shaped .ensures) ∙ not-false _ (v .if1 .left) in
-    let o : inOrder (a .n) b (w .before .before .records .result) (l .i) ≡ true =
+    let s = shape-found (a .b .now) (l .i) r (a .n) (v .before .is-shaped .ensures) (not-false _ (v .if1 .left)) in
+    let o : inOrder (a .b .now) (l .i) ≡ true =
     ⊎-elim
-    (λ x. later b (l .i) true (x .0 .taken) ((λ j. isAbove (sym (x .1 .ensures) j) (sym r j)) ∙ sym (x .2 .ensures) ∙ not-false _ (x .3 .left)))
-    (λ x. earliest b (l .i) (x .left))
+    (λ x. order-found (a .b .now) (l .i) r (x .0 .taken) (x .1 .ensures) (x .2 .ensures) (not-false _ (x .3 .left)))
+    (λ x. order-first (a .b .now) (l .i) (x .left))
     (c .if2 .came) in
-    (l .inv .0, l .inv .1 ∙ passed (a .n) b (w .before .before .records .result) (l .i) (w .loop-test .taken) s o)
+    (l .inv .0, l .inv .1 ∙ record-passed (a .n) (a .b .now) (w .before .before .records .result) (l .i) (w .loop-test .taken) s o)
 
 returns-3 : tie.Need-returns-3 Inv-loop μ-loop
 returns-3 c =
     let l = c .before .loop in
     let a = c .before .before .before .before .args in
-    sym (l .inv .1 ∙ all-passed (a .n) (a .b .now) (c .before .before .records .result) (l .i) (c .loop-test .left))
+    sym (l .inv .1 ∙ records-passed (a .n) (a .b .now) (c .before .before .records .result) (l .i) (c .loop-test .left))
 
 pub records-refusal-spec : {M : Type 1} → statement M
 records-refusal-spec =

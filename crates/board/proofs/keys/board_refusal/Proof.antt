@@ -13,11 +13,6 @@ use Rattle.board.specs.Board.{formChecks, keyChecks}
 use Rattle.board.proofs.Numbers.{form-numbered}
 use Rattle.board.proofs.keys.board_refusal.Statement.{statement}
 use Rattle.board.proofs.keys.board_refusal.Tie as tie
-use Rattle.board.proofs.keys.board_refusal.Reads as reads
-use Rattle.board.proofs.keys.board_refusal.Lts as lts
-use Rattle.board.proofs.form.form_refusal.Reads as form-refusal-reads
-use Rattle.board.proofs.keys.keys_refusal.Reads as keys-refusal-reads
-use Rattle.sharing.proofs.round_group.Reads as round-group-reads
 
 round-group-requires : tie.Need-round-group-requires
 round-group-requires c κs = search needs

@@ -15,11 +15,6 @@ use Rattle.dealing.specs.Records.{isKey}
 use Rattle.board.specs.Board.{keysIn}
 use Rattle.board.proofs.keys.keys_refusal.Statement.{statement}
 use Rattle.board.proofs.keys.keys_refusal.Tie as tie
-use Rattle.board.proofs.keys.keys_refusal.Reads as reads
-use Rattle.board.proofs.keys.keys_refusal.Lts as lts
-use Rattle.board.proofs.keys.has_keys.Reads as has-keys-reads
-use Rattle.board.proofs.keys.keys.Reads as keys-reads
-use Rattle.dealing.proofs.all_keys.Reads as all-keys-reads
 
 -- the test of the array's first n is the test of the members' keys
 keys-tested : (R : Round) (b ys : List ℕ) {G : Group} {r : Bool} → groupIn R ≡ G → take (R .n) ys ≡ keysIn (R .n) b

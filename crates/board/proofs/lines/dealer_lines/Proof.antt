@@ -8,10 +8,6 @@ use Rattle.sharing.specs.Answer.{checkOutcomeOf}
 use Rattle.board.specs.Board.{linesOf, linesChecks, linesPart}
 use Rattle.board.proofs.lines.dealer_lines.Statement.{statement}
 use Rattle.board.proofs.lines.dealer_lines.Tie as tie
-use Rattle.board.proofs.lines.dealer_lines.Reads as reads
-use Rattle.board.proofs.lines.dealer_lines.Lts as lts
-use Rattle.board.proofs.lines.lines_check.Reads as lines-check-reads
-use Rattle.board.proofs.lines.lines_of.Reads as lines-of-reads
 
 lines-check-requires : tie.Need-lines-check-requires
 lines-check-requires c κs = search needs

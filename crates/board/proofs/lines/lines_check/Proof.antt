@@ -9,11 +9,6 @@ use Rattle.board.specs.Board.{formChecks}
 use Rattle.board.proofs.Numbers.{form-numbered}
 use Rattle.board.proofs.lines.lines_check.Statement.{statement}
 use Rattle.board.proofs.lines.lines_check.Tie as tie
-use Rattle.board.proofs.lines.lines_check.Reads as reads
-use Rattle.board.proofs.lines.lines_check.Lts as lts
-use Rattle.board.proofs.form.form_refusal.Reads as form-refusal-reads
-use Rattle.sharing.proofs.round_group.Reads as round-group-reads
-use Rattle.sharing.proofs.is_member.Reads as is-member-reads
 
 round-group-requires : tie.Need-round-group-requires
 round-group-requires c κs = search needs

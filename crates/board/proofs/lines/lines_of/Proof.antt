@@ -9,10 +9,6 @@ use Rattle.board.specs.Board.{linesStart, linesEnd, linesOf}
 use Rattle.board.proofs.LineRun.{start-is, end-is, end-inside}
 use Rattle.board.proofs.lines.lines_of.Statement.{statement}
 use Rattle.board.proofs.lines.lines_of.Tie as tie
-use Rattle.board.proofs.lines.lines_of.Reads as reads
-use Rattle.board.proofs.lines.lines_of.Lts as lts
-use Rattle.board.proofs.search.lines_end.Reads as lines-end-reads
-use Rattle.board.proofs.search.lines_start.Reads as lines-start-reads
 
 lines-start-requires : tie.Need-lines-start-requires
 lines-start-requires c κs = search needs

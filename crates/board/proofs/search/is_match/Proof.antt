@@ -1,12 +1,9 @@
 -- `is_match` meets its contract: the words that are read are the record's.
 use borrow.Author.Needs.{needs}
 use Rattle.board.specs.Board.{isMatch}
-use Rattle.board.proofs.Steps.{match-other, match-kind}
+use Rattle.board.proofs.Matches.{match-other, match-kind}
 use Rattle.board.proofs.search.is_match.Statement.{statement}
 use Rattle.board.proofs.search.is_match.Tie as tie
-use Rattle.board.proofs.search.is_match.Reads as reads
-use Rattle.board.proofs.search.is_match.Lts as lts
-use Rattle.words.proofs.word_at.Reads as word-at-reads
 
 mul-word-at : tie.Need-mul-word-at
 mul-word-at c = search needs
