@@ -1,5 +1,5 @@
 -- `form_refusal` meets its contract: the length decides, and then the records one by one.
-use mathlib.Core.Path.{_≡_, sym}
+use mathlib.Core.Path.{_≡_}
 use mathlib.Core.Bool.{true, false}
 use native.Mathlib.Omega.{arith}
 use borrow.Author.Needs.{needs}

@@ -1,9 +1,8 @@
 -- `board_refusal` meets its contract: of the three stages of checks the first that refuses decides.
-use mathlib.Core.Path.{_≡_, sym, ap, _∙_}
+use mathlib.Core.Path.{sym, ap, _∙_}
 use mathlib.Core.List.{_++_}
 use native.Mathlib.Omega.{arith}
 use borrow.Author.Needs.{needs}
-use Rattle.words.specs.Checks.{Met}
 use Rattle.words.proofs.Checks.{refusal-rest, refusal-append, value-met, refused-exactly, none-exactly, first-exactly}
 use Rattle.group.specs.Table.{groupOutcomeOf}
 use Rattle.group.specs.declared.Group.{Group}

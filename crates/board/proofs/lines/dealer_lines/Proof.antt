@@ -1,8 +1,7 @@
 -- `dealer_lines` meets its contract: what `lines_check` answers tells whether every check is met.
-use mathlib.Core.Path.{_≡_, sym, ap, _∙_}
+use mathlib.Core.Path.{sym, ap, _∙_}
 use mathlib.Core.List.{[]}
 use borrow.Author.Needs.{needs}
-use Rattle.words.specs.Checks.{outcome, refused}
 use Rattle.words.proofs.Checks.{value-met, refused-exactly, lent-met, lent-kept}
 use Rattle.sharing.specs.Answer.{checkOutcomeOf}
 use Rattle.board.specs.Board.{linesOf, linesChecks, linesPart}

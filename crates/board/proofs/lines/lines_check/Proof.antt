@@ -1,5 +1,5 @@
 -- `lines_check` meets its contract: a refusal of the round is handed on, and after it each test that fails decides.
-use mathlib.Core.Path.{_≡_, sym, _∙_}
+use mathlib.Core.Path.{sym, _∙_}
 use native.Mathlib.Omega.{arith}
 use borrow.Author.Needs.{needs}
 use borrow.Author.Tests.{not-true, not-false}

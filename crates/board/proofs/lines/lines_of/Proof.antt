@@ -1,11 +1,9 @@
 -- `lines_of` meets its contract: the lines end within the board, where they start or after.
-use mathlib.Core.Path.{_≡_, sym, ap, _∙_}
-use Prim.Native.Nat.{ℕ, _-_, _*_, _≤_}
+use Prim.Native.Nat.{_-_, _*_}
 use native.Mathlib.Omega.{arith}
 use borrow.Author.Needs.{needs}
-use lib.ListN.{length, take, drop}
-use Rattle.board.specs.Search.{recordsIn}
-use Rattle.board.specs.Board.{linesStart, linesEnd, linesOf}
+use lib.ListN.{take, drop}
+use Rattle.board.specs.Board.{linesOf}
 use Rattle.board.proofs.LineRun.{start-is, end-is, end-inside}
 use Rattle.board.proofs.lines.lines_of.Statement.{statement}
 use Rattle.board.proofs.lines.lines_of.Tie as tie

@@ -1,6 +1,5 @@
 -- `is_match` meets its contract: the words that are read are the record's.
 use borrow.Author.Needs.{needs}
-use Rattle.board.specs.Board.{isMatch}
 use Rattle.board.proofs.Matches.{match-other, match-kind}
 use Rattle.board.proofs.search.is_match.Statement.{statement}
 use Rattle.board.proofs.search.is_match.Tie as tie
