@@ -31,7 +31,7 @@ check-polynomial R m d v Y =
       low = map-all f (λ c. c < groupIn R .q) ks (All-each ks (λ k. challenge-low R m (coefficientMessage R d v Y k)));
     }
 
-bytes-same : (f g : ℕ → List ℕ) (is : List ℕ) → All (λ i. f i ≡ g i) is → bytesOver f is ≡ bytesOver g is
+pub bytes-same : (f g : ℕ → List ℕ) (is : List ℕ) → All (λ i. f i ≡ g i) is → bytesOver f is ≡ bytesOver g is
 unfolding bytesOver
 bytes-same f g [] h = refl
 bytes-same f g (i ∷ is) h = λ j. wordsBytes (h .0 j) ++ bytes-same f g is (h .1) j

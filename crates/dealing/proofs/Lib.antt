@@ -9,6 +9,10 @@ pub mod Stages
 pub mod Opened
 pub mod Posted
 pub mod Challenges
+pub mod Entries
+pub mod Lines
+pub mod Sizes
+pub mod Figures
 pub mod Equal
 pub mod Judged
 pub mod Written

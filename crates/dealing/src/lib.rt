@@ -1,11 +1,14 @@
 // Dealings and opened shares: the hashed messages, proofs of equal logarithms, writers and judges.
+mod judge;
 mod logarithms;
 mod message;
 mod records;
 mod share;
+mod writer;
 
 use group::Element;
 use group::Exponent;
+pub use judge::judge_dealing;
 pub use logarithms::announced;
 pub use logarithms::announcements;
 pub use logarithms::equality_check;
@@ -24,6 +27,7 @@ pub use records::is_share_record;
 pub use records::record_at;
 pub use share::judge_share;
 pub use share::write_share;
+pub use writer::write_dealing;
 
 // A proof with lent figures that x1 is b1 and x2 is b2 to one exponent: the announcements a1 and a2, the challenge c, the response r.
 pub struct Equality {
