@@ -2,7 +2,6 @@
 // payload has these.
 use crate::payload;
 use crate::print;
-use sharing::Round;
 use words::Record;
 
 pub fn run(case: Record, space: &[u8]) -> bool {
@@ -16,11 +15,7 @@ pub fn run(case: Record, space: &[u8]) -> bool {
     if b > 64 {
         return false;
     }
-    let rd = Round {
-        group: case.w1,
-        n: case.w2,
-        t: case.w3,
-    };
+    let rd = payload::round(case);
     print::check(b"degree ", sharing::degree_check(rd, &vs[0..a], &cs[0..b]));
     true
 }

@@ -2,7 +2,6 @@
 use crate::payload;
 use crate::print;
 use group::Exponent;
-use sharing::Round;
 use words::Record;
 
 pub fn run(case: Record, space: &[u8]) -> bool {
@@ -11,11 +10,7 @@ pub fn run(case: Record, space: &[u8]) -> bool {
     if a > 64 {
         return false;
     }
-    let rd = Round {
-        group: case.w1,
-        n: case.w2,
-        t: case.w3,
-    };
+    let rd = payload::round(case);
     print::check(
         b"opening ",
         sharing::opening(rd, &vs[0..a], Exponent(case.w4)),

@@ -1,6 +1,17 @@
-// Figures in a payload.
+// Figures of a case, in its arguments and in its payload.
+use sharing::Round;
+use words::Record;
 
-// The word number k, from 0. It is 0 where the space ends before.
+// The round of an operation whose first arguments are group, n and t.
+pub fn round(case: Record) -> Round {
+    Round {
+        group: case.w1,
+        n: case.w2,
+        t: case.w3,
+    }
+}
+
+// The word number k of a payload, from 0. It is 0 where the space ends before.
 pub fn word(space: &[u8], k: usize) -> u32 {
     let words = space.len() / 4;
     if k < words {
@@ -10,7 +21,7 @@ pub fn word(space: &[u8], k: usize) -> u32 {
     }
 }
 
-// The 64 words from the word number `from` on. A case's lists are no longer.
+// The 64 words of a payload from the word number `from` on. A case's lists are no longer.
 pub fn list(space: &[u8], from: u32) -> [u32; 64] {
     let mut ws = [0u32; 64];
     let mut i = 0;

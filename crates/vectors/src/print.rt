@@ -19,14 +19,43 @@ pub fn refused(name: &[u8], k: u32) {
     number(b"refused ", k);
 }
 
-pub fn check(name: &[u8], answer: CheckAnswer) {
+// An answer without a value, and no end of the line.
+fn passed(name: &[u8], answer: CheckAnswer) {
+    text(name);
     match answer {
-        CheckAnswer::Passed => {
-            text(name);
-            text(b"passed\n");
+        CheckAnswer::Passed => text(b"passed"),
+        CheckAnswer::Refused(k) => {
+            text(b"refused ");
+            io::print_decimal(STDOUT_FILENO, k as u64);
         }
-        CheckAnswer::Refused(k) => refused(name, k),
     }
+}
+
+pub fn check(name: &[u8], answer: CheckAnswer) {
+    passed(name, answer);
+    text(b"\n");
+}
+
+fn byte(b: u8) {
+    io::print_hex(STDOUT_FILENO, b as u64, 2);
+}
+
+fn bytes(b: &[u8]) {
+    let mut i = 0;
+    while i < b.len() {
+        byte(b[i]);
+        i += 1;
+    }
+}
+
+// The answer of a writer, and what its buffer, the first `size` bytes, then has in it.
+pub fn written(name: &[u8], answer: CheckAnswer, space: &[u8], size: usize) {
+    passed(name, answer);
+    text(b" ");
+    if size <= space.len() {
+        bytes(&space[0..size]);
+    }
+    text(b"\n");
 }
 
 pub fn element(name: &[u8], answer: ElementAnswer) {

@@ -1,7 +1,6 @@
 // Cases of recovery. The arguments are group, n, t, and the numbers of members and of shares; the payload has these.
 use crate::payload;
 use crate::print;
-use sharing::Round;
 use words::Record;
 
 pub fn run(case: Record, space: &[u8]) -> bool {
@@ -15,11 +14,7 @@ pub fn run(case: Record, space: &[u8]) -> bool {
     if b > 64 {
         return false;
     }
-    let rd = Round {
-        group: case.w1,
-        n: case.w2,
-        t: case.w3,
-    };
+    let rd = payload::round(case);
     print::element(b"recovery ", sharing::recovery(rd, &ms[0..a], &ss[0..b]));
     true
 }

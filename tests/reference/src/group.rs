@@ -37,6 +37,11 @@ impl Group {
         0 < v && v < self.p && self.power(v, self.q) == 1
     }
 
+    /// A member's key: an element that is not 1.
+    pub fn is_key(&self, y: u32) -> bool {
+        self.is_element(y) && y != 1
+    }
+
     pub fn all_elements(&self, figures: &[u32]) -> bool {
         figures.iter().all(|&v| self.is_element(v))
     }

@@ -2,12 +2,16 @@
 //! with the product, and writes the vectors that the product is run on.
 
 mod answer;
+mod equality;
 mod group;
+mod message;
 mod modular;
 mod numbers;
 mod primes;
+mod record;
 mod round;
 mod sha256;
+mod share;
 mod sharing;
 mod vectors;
 

@@ -16,6 +16,7 @@ pub struct Figures {
 
 /// A round whose figures are proper.
 pub struct Round {
+    pub number: u32,
     pub group: Group,
     pub n: u32,
     pub t: u32,
@@ -28,7 +29,12 @@ impl Figures {
         let group = group(number)?;
         require((1..=MOST).contains(&n) && n < group.q, 2)?;
         require((1..=n).contains(&t), 2)?;
-        Ok(Round { group, n, t })
+        Ok(Round {
+            number,
+            group,
+            n,
+            t,
+        })
     }
 }
 

@@ -69,3 +69,12 @@ pub fn other_element(group: &Group, figure: u32) -> u32 {
         figure
     }
 }
+
+/// The next exponent for an exponent. A figure that is none stays.
+pub fn other_exponent(group: &Group, figure: u32) -> u32 {
+    if figure < group.q {
+        (figure + 1) % group.q
+    } else {
+        figure
+    }
+}
