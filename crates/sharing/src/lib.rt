@@ -11,9 +11,9 @@ mod shares;
 mod weights;
 
 pub use checks::round_group;
+use group::ElementAnswer;
 use group::Exponent;
 use group::GroupAnswer;
-use group::ElementAnswer;
 use group::all_elements;
 use group::all_exponents;
 use group::is_exponent;
