@@ -82,7 +82,8 @@ module _ (J : Judges) {R : Round} {b : List ℕ} (F : Formed R b) where
   multiplied p (d ∷ ds) = by (case-of J F d) (multiplied p ds)
     where
       by : Case J R b d → secretsProduct p (verdictsFor ds) ≡ productOf p (map secretAt (acceptedOf ds))
-          → timesSecret p (verdictOn J R b d) (secretsProduct p (verdictsFor ds)) ≡ productOf p (map secretAt (pick (isAccepted J R b d) (d ∷ acceptedOf ds) (acceptedOf ds)))
+          → timesSecret p (verdictOn J R b d) (secretsProduct p (verdictsFor ds))
+          ≡ productOf p (map secretAt (pick (isAccepted J R b d) (d ∷ acceptedOf ds) (acceptedOf ds)))
       by (nothing z a v) e = rw (v, a) e
       by (partial n l a v) e = rw (v, a) e
       by (rejected l k g a v) e = rw (v, a) e
@@ -161,7 +162,10 @@ module _ (J : Judges) (R : Round) (b : List ℕ) (c : Met (boardChecks R b)) whe
         λ e. ⊎-elim
             (λ u. absurd (omega (arith, u .1)))
             (λ u. ⊎-elim
-            (λ v. (omega (arith, leb-true (R .t) (countAccepted (verdictsOn J R b)) (u .0)), some-stuck .0 (not-false (anyStuck (verdictsOn J R b)) (v .0))))
+            (λ v. (
+              omega (arith, leb-true (R .t) (countAccepted (verdictsOn J R b)) (u .0)),
+              some-stuck .0 (not-false (anyStuck (verdictsOn J R b)) (v .0)),
+            ))
             (λ v. absurd (v .1))
             (u .1))
             (r .0 (sym draw-is ∙ e)),
@@ -185,8 +189,10 @@ module _ (J : Judges) (R : Round) (b : List ℕ) (c : Met (boardChecks R b)) whe
             ),
         λ h.
             draw-is
-            ∙ value-exactly Element lastChecks drawValue .1
-            (le-leb (R .t) (countAccepted (verdictsOn J R b)) (omega (arith, h .0)), (none-stuck (anyStuck (verdictsOn J R b)) (λ e. h .1 (some-stuck .0 e)), tt))
+            ∙ value-exactly Element lastChecks drawValue .1 (
+              le-leb (R .t) (countAccepted (verdictsOn J R b)) (omega (arith, h .0)),
+              (none-stuck (anyStuck (verdictsOn J R b)) (λ e. h .1 (some-stuck .0 e)), tt),
+            )
             ∙ (λ j. value (record { 0 = (p ∙ sym (h .2)) j })),
       )
     where

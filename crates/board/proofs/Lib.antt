@@ -8,3 +8,6 @@ pub mod VerdictCases
 pub mod Endings
 pub mod TwoBoards
 pub mod Demand3
+pub mod Matches
+pub mod Steps
+pub mod Numbers

@@ -33,15 +33,15 @@ module _ (b : List ℕ) (d : ℕ) where
   unfolding isLineBy
   true-line i k e = true-equal (recordAt b i .w0) 2 (recordAt b i .w1) d k e
 
-  start-is : First (isLineBy b d) 0 (recordsIn b) (linesStart b d)
+  pub start-is : First (isLineBy b d) 0 (recordsIn b) (linesStart b d)
   unfolding linesStart
   start-is = first-is (isLineBy b d) 0 (recordsIn b)
 
-  end-is : First (λ i. not (isLineBy b d i)) (linesStart b d) (recordsIn b - linesStart b d) (linesEnd b d)
+  pub end-is : First (λ i. not (isLineBy b d i)) (linesStart b d) (recordsIn b - linesStart b d) (linesEnd b d)
   unfolding linesEnd
   end-is = first-is (λ i. not (isLineBy b d i)) (linesStart b d) (recordsIn b - linesStart b d)
 
-  end-inside : linesEnd b d ≤ recordsIn b
+  pub end-inside : linesEnd b d ≤ recordsIn b
   end-inside = omega (arith, start-is .upto, end-is .upto)
 
   -- ---- the part's bytes

@@ -57,7 +57,8 @@ module _ {J : Judges} {R : Round} {b : List ℕ} (F : Formed R b) {d : ℕ} {cs 
             serving-shares);
         distinct =
             ascending-distinct (map memberIn serving)
-            (subst Ascending (take-map memberIn (R .t) (sharesBy J R b d)) (take-ascending (R .t) (map memberIn (sharesBy J R b d)) (shares-ascend J F d)));
+            (subst Ascending (take-map memberIn (R .t) (sharesBy J R b d))
+            (take-ascending (R .t) (map memberIn (sharesBy J R b d)) (shares-ascend J F d)));
         enough = omega (arith, map-length memberIn serving, length-take-le (R .t) (sharesBy J R b d) l);
       }
 
@@ -71,7 +72,8 @@ module _ {J : Judges} {R : Round} {b : List ℕ} (F : Formed R b) {d : ℕ} {cs 
       map-same (λ i. recordAt b i .w3) (λ i. f (memberIn i)) serving (All-to serving (λ i s. S .true-shares i (s .0) (s .1)) serving-shares)
       ∙ sym (map-comp memberIn f serving) in
       ap (recovered G (map memberIn serving)) trues
-      ∙ recovered-secret R (F .round) cs (S .carries .polynomial) (G .h .0) (ready R (F .round) .proper .h-generates) (map memberIn serving) (serving-quorum l)
+      ∙ recovered-secret R (F .round) cs (S .carries .polynomial) (G .h .0) (ready R (F .round) .proper .h-generates)
+      (map memberIn serving) (serving-quorum l)
 
   secret-is : Source J R b d → secretValue (secretBy J R b d) ≡ powerOfH R (secretOf R cs)
   secret-is (opened o e) =
@@ -109,10 +111,15 @@ module _ (J : Judges) (R : Round) (b : List ℕ) (f : ℕ → List ℕ) (A : All
 
 -- ---- both boards
 pub same-draw : SameDraw
-same-draw J R b c f e A C M l = (ends-in J R b f A l, ends-in J R c e C (subst (λ (ds : List ℕ). R .t ≤ length ds) same l) ∙ (λ j. value (record { 0 = sym other j })))
+same-draw J R b c f e A C M l = (
+  ends-in J R b f A l,
+  ends-in J R c e C (subst (λ (ds : List ℕ). R .t ≤ length ds) same l) ∙ (λ j. value (record { 0 = sym other j })),
+)
   where
     same : acceptedDealers J R b ≡ acceptedDealers J R c
-    same = filter-same (isAccepted J R b) (isAccepted J R c) (members (R .n)) (each-members (λ d. isAccepted J R b d ≡ isAccepted J R c d) (R .n) (M .dealers))
+    same =
+        filter-same (isAccepted J R b) (isAccepted J R c) (members (R .n))
+        (each-members (λ d. isAccepted J R b d ≡ isAccepted J R c d) (R .n) (M .dealers))
 
     secret : (d : ℕ) → 1 ≤ d → d ≤ R .n → isAccepted J R b d ≡ true → secretOf R (f d) ≡ secretOf R (e d)
     secret d h u a =

@@ -83,8 +83,10 @@ module _ (J : Judges) {R : Round} {b : List ℕ} (F : Formed R b) (d : ℕ) wher
   refuses-exactly (nothing z a v) k =
       (λ h. absurd (false-true (cc)), ⊎-elim (λ h. absurd (h .0 z)) (λ h. absurd (omega (arith, some-members, h .0))))
   refuses-exactly (partial n l a v) k = (λ h. inl (n, l, cc), ⊎-elim (λ h. v ∙ ap Refused (sym (h .2))) (λ h. absurd (l (h .0))))
-  refuses-exactly (rejected l i g a v) k =
-      (λ h. inr (l, let s : i ≡ k = cc in g ∙ ap refused s), ⊎-elim (λ h. absurd (h .1 l)) (λ h. let e = h .1 in let s : i ≡ k = cc in v ∙ ap Refused s))
+  refuses-exactly (rejected l i g a v) k = (
+    λ h. inr (l, let s : i ≡ k = cc in g ∙ ap refused s),
+    ⊎-elim (λ h. absurd (h .1 l)) (λ h. let e = h .1 in let s : i ≡ k = cc in v ∙ ap Refused s),
+  )
   refuses-exactly (passed l g a v) k =
       (λ h. absurd (false-true (cc)), ⊎-elim (λ h. absurd (h .1 l)) (λ h. let e = h .1 in absurd (false-true (cc))))
 

@@ -2,11 +2,12 @@
 use mathlib.Core.Bool.{Bool, true, false, not, _&&_}
 use mathlib.Core.List.{List, [], _∷_, _++_}
 use Prim.Native.Nat.{ℕ, zero, suc, _-_, _*_, _%_}
-use lib.ListN.{length, take, drop}
+use lib.ListN.{length, getD, take, drop}
 use lib.Dec.{leb, ltb, eqb}
 use Rattle.words.specs.Choice.{pick}
 use Rattle.words.specs.Lists.{map, all}
 use Rattle.words.specs.Checks.{Check, _unless_, lentAfter}
+use Rattle.words.specs.Bytes.{recordWords}
 use Rattle.words.specs.declared.Record.{Record}
 use Rattle.sharing.specs.Round.{groupIn, roundChecks, isMember, members}
 use Rattle.sharing.specs.declared.Round.{Round}
@@ -41,17 +42,30 @@ recordChecks n b i (suc m) =
 abbrev pub formChecks : ℕ → List ℕ → List Check
 formChecks n b = 3 unless (eqb (length b % 32) 0 && leb (recordsIn b) 2048) ∷ recordChecks n b 0 (recordsIn b)
 
--- ---- keys
+-- ---- records by their kind and one more word
 -- the record i has the kind k
 abbrev pub isKind : List ℕ → ℕ → ℕ → Bool
 isKind b k i = eqb (recordAt b i .w0) k
 
+-- the record i has the kind k and x as its word j
+unfoldable pub isMatch : List ℕ → ℕ → ℕ → ℕ → ℕ → Bool
+isMatch b k j x i = isKind b k i && eqb (getD (recordWords (recordAt b i)) j 0) x
+
+-- it has, or it has not, as it is wanted
+abbrev pub isSought : List ℕ → ℕ → ℕ → ℕ → Bool → ℕ → Bool
+isSought b k j x want i = pick want (isMatch b k j x i) (not (isMatch b k j x i))
+
+-- ---- keys
 unfoldable pub isKeyOf : List ℕ → ℕ → ℕ → Bool
 isKeyOf b m i = isKind b 1 i && eqb (recordAt b i .w2) m
 
 -- the record of the key of member m
 unfoldable pub keyRecord : List ℕ → ℕ → ℕ
 keyRecord b m = first (isKeyOf b m) 0 (recordsIn b)
+
+-- member m has one
+abbrev pub hasKey : List ℕ → ℕ → Bool
+hasKey b m = ltb (keyRecord b m) (recordsIn b)
 
 unfoldable pub keyIn : List ℕ → ℕ → ℕ
 keyIn b m = recordAt b (keyRecord b m) .w3
@@ -62,7 +76,7 @@ keysIn n b = map (keyIn b) (members n)
 -- 12 a key missing, 6 a bad key
 abbrev pub keyChecks : Round → List ℕ → List Check
 keyChecks R b =
-    12 unless all (λ m. ltb (keyRecord b m) (recordsIn b)) (members (R .n))
+    12 unless all (hasKey b) (members (R .n))
     ∷ 6 unless all (isKey (groupIn R)) (keysIn (R .n) b)
     ∷ []
 

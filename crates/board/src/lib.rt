@@ -1,5 +1,12 @@
 // The board: its shape, a dealer's lines, verdicts, the draw value and the text that reports them.
+mod form;
+mod keys;
+mod lines;
+mod search;
+
 use group::Element;
+pub use lines::dealer_lines;
+pub use lines::lines_check;
 
 // How the secret of an accepted dealing came.
 pub enum Secret {

@@ -1,5 +1,5 @@
 -- What the loops over members and figures keep, each of which runs down a list: a product over the others, or a product of powers, of the
--- part of the list from an index on. Each has laws for its start, its turns and its end.
+-- part of the list from an index on. Each has laws for its start and for a turn.
 use mathlib.Core.Path.{_≡_, sym, ap, _∙_}
 use mathlib.Core.List.{List}
 use Prim.Native.Nat.{ℕ, _-_, _≤_, _<_}
@@ -17,16 +17,16 @@ pub member-at : (n j : ℕ) → 0 < j → j ≤ n → getD (members n) (j - 1) 0
 member-at n j h l = up-at 1 n (j - 1) (omega arith) ∙ omega arith
 
 -- ---- the product over the others of the list from index k on, where j stands before k
-module _ (q : ℕ) (above : 1 < q) (f : ℕ → ℕ) (i : ℕ) (l : List ℕ) (k : ℕ) where
+module _ (q : ℕ) (f : ℕ → ℕ) (i : ℕ) (l : List ℕ) (k : ℕ) where
   pub product-start : k ≡ length l → 1 ≡ productOver q f i (drop k l)
   product-start e = rw (e, drop-length)
 
   module _ (h : 0 < k) (b : k ≤ length l) (j : ℕ) (at : getD l (k - 1) 0 ≡ j) where
     pub product-self : i ≡ j → productOver q f i (drop k l) ≡ productOver q f i (drop (k - 1) l)
-    product-self e = rw (drop-back l k 0 h b, at) (sym (self q above f i j (drop k l) e))
+    product-self e = rw (drop-back l k 0 h b, at) (sym (self q f i j (drop k l) e))
 
     pub product-other : (i ≡ j → ⊥) → mul q (f j) (productOver q f i (drop k l)) ≡ productOver q f i (drop (k - 1) l)
-    product-other n = rw (drop-back l k 0 h b, at) (sym (other q above f i j (drop k l) n))
+    product-other n = rw (drop-back l k 0 h b, at) (sym (other q f i j (drop k l) n))
 
 -- ---- the product of the powers of two lists of one length from index k on
 module _ (p : ℕ) (vs es : List ℕ) (k : ℕ) where

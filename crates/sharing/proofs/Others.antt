@@ -30,7 +30,7 @@ module _ (q : ℕ) (above : 1 < q) (f : ℕ → ℕ) (x : ℕ) where
   others l = productOver q f x l
 
   others-whole : (before l : List ℕ) → others (whole before l) ≡ mul q (others before) (others l)
-  others-whole [] l = sym (mul-comm q 1 (others l) ∙ mul-one q (others l) (others-below q above f x l))
+  others-whole [] l = sym (mul-comm q 1 (others l) ∙ mul-one q (others l) (others-below q f x above l))
   others-whole (y ∷ before) l = others-whole before (y ∷ l) ∙ by (eqb x y)
     where
       by : (b : Bool) → mul q (others before) (pick b (others l) (mul q (f y) (others l)))
@@ -40,7 +40,7 @@ module _ (q : ℕ) (above : 1 < q) (f : ℕ → ℕ) (x : ℕ) where
 
   -- those before and those after
   others-split : (before after : List ℕ) → mul q (others before) (others after) ≡ others (whole before (x ∷ after))
-  others-split before after = sym (others-whole before (x ∷ after) ∙ ap (mul q (others before)) (self q above f x x after refl))
+  others-split before after = sym (others-whole before (x ∷ after) ∙ ap (mul q (others before)) (self q f x x after refl))
 
 -- ---- each node among those before and after it
 -- the nodes after are none of those before
@@ -55,7 +55,7 @@ module _ (q : ℕ) (above : 1 < q) where
   gaps-others : (x : ℕ) (l : List ℕ) → Apart x l → gaps (residueOps q) x l ≡ productOver q (sub q x) x l
   gaps-others x [] a = refl
   gaps-others x (y ∷ l) a =
-      (λ j. mul q (sym (sub-add-neg q x y) j) (gaps-others x l (a .1) j)) ∙ sym (other q above (sub q x) x y l (a .0))
+      (λ j. mul q (sym (sub-add-neg q x y) j) (gaps-others x l (a .1) j)) ∙ sym (other q (sub q x) x y l (a .0))
 
   abbrev ratio : ℕ → ℕ → ℕ
   ratio i j = mul q j (inv q (sub q j i))
@@ -63,7 +63,7 @@ module _ (q : ℕ) (above : 1 < q) where
   ratios-others : (x : ℕ) (l : List ℕ) → Apart x l → ratios (residueOps q) x l ≡ productOver q (ratio x) x l
   ratios-others x [] a = refl
   ratios-others x (y ∷ l) a =
-      (λ j. mul q (mul q y (inv q (sym (sub-add-neg q y x) j))) (ratios-others x l (a .1) j)) ∙ sym (other q above (ratio x) x y l (a .0))
+      (λ j. mul q (mul q y (inv q (sym (sub-add-neg q y x) j))) (ratios-others x l (a .1) j)) ∙ sym (other q (ratio x) x y l (a .0))
 
   weights-others : (before xs : List ℕ) → Distinct xs → Fresh before xs
       → weights (residueOps q) before xs ≡ map (λ x. inv q (productOver q (sub q x) x (whole before xs))) xs

@@ -20,18 +20,18 @@ use Rattle.sharing.specs.Round.{members}
 use Rattle.sharing.specs.Weights.{productOver, gapsAt, lagrangeAt}
 
 -- ---- one factor
-module _ (q : ℕ) (above : 1 < q) (f : ℕ → ℕ) (i : ℕ) where
+module _ (q : ℕ) (f : ℕ → ℕ) (i : ℕ) where
   pub self : (j : ℕ) (l : List ℕ) → i ≡ j → productOver q f i (j ∷ l) ≡ productOver q f i l
   self j l e = pick-true (eqb i j) _ _ (eq-eqb i j e)
 
   pub other : (j : ℕ) (l : List ℕ) → (i ≡ j → ⊥) → productOver q f i (j ∷ l) ≡ mul q (f j) (productOver q f i l)
   other j l n = pick-false (eqb i j) _ _ (ne-eqb i j n)
 
-  pub others-below : (l : List ℕ) → productOver q f i l < q
-  others-below [] = above
-  others-below (j ∷ l) =
+  pub others-below : 1 < q → (l : List ℕ) → productOver q f i l < q
+  others-below h [] = h
+  others-below h (j ∷ l) =
       elim (ℕ-discrete i j) [
-        | yes e ↦ rw (self j l e) (others-below l)
+        | yes e ↦ rw (self j l e) (others-below h l)
         | no n ↦ rw (other j l n) (mul-below q (f j) (productOver q f i l) (omega arith))
       ]
 
@@ -44,9 +44,9 @@ module _ (q : ℕ) (P : Prime q) where
   not-zero : (a : ℕ) → Nonzero q a → 0 < a % q
   not-zero a u = rw (mod-eq-of-lt (u .1)) (u .0)
 
-  mul-unit : (a b : ℕ) → Nonzero q a → Nonzero q b → Nonzero q (mul q a b)
+  mul-nonzero : (a b : ℕ) → Nonzero q a → Nonzero q b → Nonzero q (mul q a b)
   unfolding mul
-  mul-unit a b u v = (
+  mul-nonzero a b u v = (
     ⊎-elim
         (λ e. absurd (⊎-elim (λ z. omega (arith, not-zero a u)) (λ z. omega (arith, not-zero b v)) (euclid q P a b e)))
         (λ h. h)
@@ -64,37 +64,34 @@ module _ (q : ℕ) (P : Prime q) where
   inv-mul a b u v =
       let e = exchange a b (inv q a) (inv q b) ∙ (λ j. mul q (mul-inv q P a (not-zero a u) j) (mul-inv q P b (not-zero b v) j)) in
       sym
-      (inv-unique q P (mul q a b) (mul q (inv q a) (inv q b)) (not-zero (mul q a b) (mul-unit a b u v))
+      (inv-unique q P (mul q a b) (mul q (inv q a) (inv q b)) (not-zero (mul q a b) (mul-nonzero a b u v))
       (mul-below q (inv q a) (inv q b) (positive q P)) (e ∙ mul-one q 1 (P .above-one)))
 
   -- ---- products over the others
   module _ (i : ℕ) where
-    -- f is not 0 at the others
-    abbrev Units : (ℕ → ℕ) → List ℕ → Type 0
-    Units f l = All (λ j. (i ≡ j → ⊥) → Nonzero q (f j)) l
+    -- f is not 0 off i
+    abbrev NonzeroOff : (ℕ → ℕ) → List ℕ → Type 0
+    NonzeroOff f l = All (λ j. (i ≡ j → ⊥) → Nonzero q (f j)) l
 
-    others-unit : (f : ℕ → ℕ) (l : List ℕ) → Units f l → Nonzero q (productOver q f i l)
-    others-unit f [] h = (omega arith, P .above-one)
-    others-unit f (j ∷ l) h =
+    others-nonzero : (f : ℕ → ℕ) (l : List ℕ) → NonzeroOff f l → Nonzero q (productOver q f i l)
+    others-nonzero f [] h = (omega arith, P .above-one)
+    others-nonzero f (j ∷ l) h =
         elim (ℕ-discrete i j) [
-          | yes e ↦ rw (self q (P .above-one) f i j l e) (others-unit f l (h .1))
-          | no n ↦ rw (other q (P .above-one) f i j l n) (mul-unit (f j) (productOver q f i l) (h .0 n) (others-unit f l (h .1)))
+          | yes e ↦ rw (self q f i j l e) (others-nonzero f l (h .1))
+          | no n ↦ rw (other q f i j l n) (mul-nonzero (f j) (productOver q f i l) (h .0 n) (others-nonzero f l (h .1)))
         ]
 
-    quotient : (f g : ℕ → ℕ) (l : List ℕ) → Units g l
+    quotient : (f g : ℕ → ℕ) (l : List ℕ) → NonzeroOff g l
         → mul q (productOver q f i l) (inv q (productOver q g i l)) ≡ productOver q (λ j. mul q (f j) (inv q (g j))) i l
     quotient f g [] h = mul-inv q P 1 (not-zero 1 (omega arith, P .above-one))
     quotient f g (j ∷ l) h =
         elim (ℕ-discrete i j) [
-          | yes e ↦ (λ k. mul q (self q a f i j l e k) (inv q (self q a g i j l e k))) ∙ quotient f g l (h .1) ∙ sym (self q a fg i j l e)
-          | no n ↦ (λ k. mul q (other q a f i j l n k) ((ap (inv q) (other q a g i j l n) ∙ inv-mul (g j) (productOver q g i l) (h .0 n) (others-unit g l (h .1))) k))
+          | yes e ↦ (λ k. mul q (self q f i j l e k) (inv q (self q g i j l e k))) ∙ quotient f g l (h .1) ∙ sym (self q fg i j l e)
+          | no n ↦ (λ k. mul q (other q f i j l n k) ((ap (inv q) (other q g i j l n) ∙ inv-mul (g j) (productOver q g i l) (h .0 n) (others-nonzero g l (h .1))) k))
               ∙ exchange (f j) (productOver q f i l) (inv q (g j)) (inv q (productOver q g i l))
-              ∙ ap (mul q (mul q (f j) (inv q (g j)))) (quotient f g l (h .1)) ∙ sym (other q a fg i j l n)
+              ∙ ap (mul q (mul q (f j) (inv q (g j)))) (quotient f g l (h .1)) ∙ sym (other q fg i j l n)
         ]
       where
-        a : 1 < q
-        a = P .above-one
-
         fg : ℕ → ℕ
         fg j = mul q (f j) (inv q (g j))
 
@@ -102,15 +99,15 @@ module _ (q : ℕ) (P : Prime q) where
   differences : (i : ℕ) (l : List ℕ) → i < q → Below q l → All (λ j. (i ≡ j → ⊥) → Nonzero q (sub q j i)) l
   differences i l h b = All-to l (λ j s n. (sub-pos q j i s h (λ e. n (sym e)), sub-below q j i (positive q P))) b
 
-  pub gaps-unit : (n i : ℕ) → n < q → i < q → Nonzero q (gapsAt q n i)
+  pub gaps-nonzero : (n i : ℕ) → n < q → i < q → Nonzero q (gapsAt q n i)
   unfolding gapsAt
-  gaps-unit n i l h =
-      others-unit i (sub q i) (members n)
+  gaps-nonzero n i l h =
+      others-nonzero i (sub q i) (members n)
       (All-to (members n) (λ j s d. (sub-pos q i j h (s .1) d, sub-below q i j (positive q P))) (up-within 1 n q (omega arith)))
 
   -- the product of the differences from i, and the quotient by it of the product of the numbers
-  pub differences-unit : (i : ℕ) (l : List ℕ) → i < q → Below q l → Nonzero q (productOver q (λ j. sub q j i) i l)
-  differences-unit i l h b = others-unit i (λ j. sub q j i) l (differences i l h b)
+  pub differences-nonzero : (i : ℕ) (l : List ℕ) → i < q → Below q l → Nonzero q (productOver q (λ j. sub q j i) i l)
+  differences-nonzero i l h b = others-nonzero i (λ j. sub q j i) l (differences i l h b)
 
   pub lagrange-quotient : (i : ℕ) (l : List ℕ) → i < q → Below q l
       → mul q (productOver q (λ j. j) i l) (inv q (productOver q (λ j. sub q j i) i l)) ≡ lagrangeAt q l i

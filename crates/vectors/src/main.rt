@@ -2,9 +2,16 @@
 //
 // A case has a header of eight words: the operation's number, six arguments and the payload's length in bytes.
 // The payload follows.
+mod degree;
 mod digest;
+mod equality;
+mod judge_share;
+mod opening;
+mod payload;
 mod power;
 mod print;
+mod recovery;
+mod write_share;
 
 use libc::STDIN_FILENO;
 use words::Record;
@@ -23,6 +30,12 @@ fn run(case: Record, space: &mut [u8], count: usize) -> bool {
     match operation {
         1 => digest::run(case, space, count),
         2 => power::run(case),
+        3 => degree::run(case, space),
+        4 => opening::run(case, space),
+        5 => recovery::run(case, space),
+        6 => equality::run(case, space),
+        9 => write_share::run(case, space),
+        10 => judge_share::run(case, space),
         _ => false,
     }
 }

@@ -29,8 +29,25 @@ impl Group {
         modular::power(base, exponent, self.p)
     }
 
+    pub fn product(&self, a: u32, b: u32) -> u32 {
+        modular::product(a, b, self.p)
+    }
+
     pub fn is_element(&self, v: u32) -> bool {
         0 < v && v < self.p && self.power(v, self.q) == 1
+    }
+
+    /// A member's key: an element that is not 1.
+    pub fn is_key(&self, y: u32) -> bool {
+        self.is_element(y) && y != 1
+    }
+
+    pub fn all_elements(&self, figures: &[u32]) -> bool {
+        figures.iter().all(|&v| self.is_element(v))
+    }
+
+    pub fn all_exponents(&self, figures: &[u32]) -> bool {
+        figures.iter().all(|&e| e < self.q)
     }
 }
 

@@ -2,11 +2,17 @@
 //! with the product, and writes the vectors that the product is run on.
 
 mod answer;
+mod equality;
 mod group;
+mod message;
 mod modular;
 mod numbers;
 mod primes;
+mod record;
+mod round;
 mod sha256;
+mod share;
+mod sharing;
 mod vectors;
 
 use std::error::Error;

@@ -47,7 +47,9 @@ pub fn digest(message: &[u8]) -> Answer<[u8; 32]> {
 /// The digest of a message of any length.
 pub fn sha256(message: &[u8]) -> [u8; 32] {
     let mut state = INITIAL;
-    for block in padded(message).chunks_exact(64) {
+    let blocks = message.chunks_exact(64);
+    let (end, size) = padded(blocks.remainder(), message.len());
+    for block in blocks.chain(end[..size].chunks_exact(64)) {
         state = compress(state, &schedule(block));
     }
     let mut digest = [0; 32];
@@ -57,15 +59,15 @@ pub fn sha256(message: &[u8]) -> [u8; 32] {
     digest
 }
 
-/// Section 5.1.1: a one bit, zero bits up to 64 below a whole block, and the length in bits.
-fn padded(message: &[u8]) -> Vec<u8> {
-    let mut bytes = message.to_vec();
-    bytes.push(0x80);
-    while bytes.len() % 64 != 56 {
-        bytes.push(0);
-    }
-    bytes.extend((8 * message.len() as u64).to_be_bytes());
-    bytes
+/// Section 5.1.1: behind what is left of the message a one bit, zero bits up to 64 below a whole block, and the
+/// message's length in bits. That is one block or two: their bytes, and how many of them count.
+fn padded(rest: &[u8], length: usize) -> ([u8; 128], usize) {
+    let size = if rest.len() < 56 { 64 } else { 128 };
+    let mut bytes = [0; 128];
+    bytes[..rest.len()].copy_from_slice(rest);
+    bytes[rest.len()] = 0x80;
+    bytes[size - 8..size].copy_from_slice(&(8 * length as u64).to_be_bytes());
+    (bytes, size)
 }
 
 /// Section 6.2.2, step 1: the message schedule of a block.

@@ -5,8 +5,16 @@
 //! follows. Where an operation has more figures than the header holds, they are the first words of its payload.
 //! The text has a line for each case: the operation's name, and its value or `refused` with its number.
 
+mod degree;
 pub mod digest;
+mod equality;
+mod faults;
+mod judge_share;
+mod opening;
 mod power;
+mod recovery;
+mod sample;
+mod write_share;
 
 use crate::answer::Answer;
 
@@ -23,25 +31,69 @@ pub struct Vectors {
 }
 
 impl Vectors {
-    /// Adds a case with what the operation answers to it.
+    /// Adds a case with what the operation answers to it. Returns the number that it is refused by.
     fn add(
         &mut self,
         operation: &Operation,
         arguments: &[u32],
         payload: &[u8],
         answer: Answer<String>,
-    ) {
+    ) -> Option<u32> {
+        let refusal = answer.as_ref().err().copied();
+        let answer = answer.unwrap_or_else(|number| format!("refused {number}"));
+        self.line(operation, arguments, payload, &answer);
+        refusal
+    }
+
+    /// Adds a case of a writer, whose buffer's bytes follow the answer. Returns the number that it is refused by.
+    fn add_written(
+        &mut self,
+        operation: &Operation,
+        arguments: &[u32],
+        payload: &[u8],
+        answer: Answer<()>,
+        buffer: &[u8],
+    ) -> Option<u32> {
+        let refusal = answer.err();
+        let answer = passed(answer).unwrap_or_else(|number| format!("refused {number}"));
+        self.line(
+            operation,
+            arguments,
+            payload,
+            &format!("{answer} {}", hex(buffer)),
+        );
+        refusal
+    }
+
+    fn line(&mut self, operation: &Operation, arguments: &[u32], payload: &[u8], text: &str) {
         let mut header = [0; 8];
         header[0] = operation.number;
         header[1..7][..arguments.len()].copy_from_slice(arguments);
         header[7] = payload.len() as u32;
-        for word in header {
-            self.stdin.extend(word.to_be_bytes());
-        }
+        self.stdin.extend(bytes(&header));
         self.stdin.extend(payload);
-        let answer = answer.unwrap_or_else(|number| format!("refused {number}"));
-        self.stdout += &format!("{} {answer}\n", operation.name);
+        self.stdout += &format!("{} {text}\n", operation.name);
     }
+}
+
+/// The text of an answer that has no value.
+fn passed(answer: Answer<()>) -> Answer<String> {
+    answer.map(|()| "passed".to_string())
+}
+
+/// The payload of a writer's case: its words, and bytes behind them up to the buffer's size. The buffer is lent with the
+/// payload's first bytes in it.
+fn buffered(words: &[u32], size: usize) -> Vec<u8> {
+    let mut payload = bytes(words);
+    while payload.len() < size {
+        payload.push(0xa5);
+    }
+    payload
+}
+
+/// The bytes of words, the most significant first.
+fn bytes(words: &[u32]) -> Vec<u8> {
+    words.iter().flat_map(|word| word.to_be_bytes()).collect()
 }
 
 /// Every case, operation by operation.
@@ -49,6 +101,12 @@ pub fn all() -> Vectors {
     let mut vectors = Vectors::default();
     digest::add(&mut vectors);
     power::add(&mut vectors);
+    degree::add(&mut vectors);
+    opening::add(&mut vectors);
+    recovery::add(&mut vectors);
+    equality::add(&mut vectors);
+    write_share::add(&mut vectors);
+    judge_share::add(&mut vectors);
     vectors
 }
 

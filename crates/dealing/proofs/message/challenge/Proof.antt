@@ -1,7 +1,5 @@
 -- `challenge` meets its contract: a message of this length is not refused, and the first two words give the first 8 bytes.
-use Prim.Native.Nat.{_+_, _*_}
-use native.Mathlib.Nat.{mod-lt}
-use native.Mathlib.Omega.{arith}
+use native.Mathlib.Nat.{mod-lt, lt-trans}
 use borrow.Author.Needs.{needs}
 use Rattle.dealing.proofs.Digests.{exponent-value, never-refused}
 use Rattle.dealing.proofs.message.challenge.Statement.{statement}
@@ -41,10 +39,7 @@ rem-t8 c = search needs
 
 cast-t9 : tie.Need-cast-t9
 cast-t9 c =
-    let v = c .before .before .before .before in
-    let s = v .before .before .before .before in
-    let d = v .d .given .0 .0 in
-    omega (arith, mod-lt (d .w0 * 4294967296 + d .w1) (s .pre .0))
+    record { fits = lt-trans (mod-lt _ (c .before .before .before .before .before .before .before .before .pre .0)) (search needs) }
 
 returns-2 : tie.Need-returns-2
 returns-2 c =

@@ -8,7 +8,7 @@ use lib.ListN.{length, drop}
 use Rattle.words.proofs.Lists.{All-at}
 use Rattle.field.specs.Residue.{sub, mul, inv}
 use Rattle.sharing.specs.Weights.{productOver}
-use Rattle.sharing.proofs.Products.{differences-unit, lagrange-quotient}
+use Rattle.sharing.proofs.Products.{differences-nonzero, lagrange-quotient}
 use Rattle.sharing.proofs.Loops.{product-start, product-self, product-other}
 use Rattle.sharing.proofs.shares.lagrange.Statement.{statement}
 use Rattle.sharing.proofs.shares.lagrange.Tie as tie
@@ -25,8 +25,7 @@ abbrev μ-loop : tie.MeasureT-loop
 loop-holds : tie.Need-loop-holds Inv-loop μ-loop
 loop-holds c =
     let a = c .before .args in
-    let p = c .before .pre .0 .prime-q .above-one in
-    (search needs, product-start (a .gr .q) p _ (a .i) (a .ms .now) _ refl, product-start (a .gr .q) p _ (a .i) (a .ms .now) _ refl)
+    (search needs, product-start (a .gr .q) _ (a .i) (a .ms .now) _ refl, product-start (a .gr .q) _ (a .i) (a .ms .now) _ refl)
 
 sub-k : tie.Need-sub-k Inv-loop μ-loop
 sub-k c = search needs
@@ -57,14 +56,13 @@ loop-less c = search needs
 loop-again : tie.Need-loop-again Inv-loop μ-loop
 loop-again c =
     let a = c .before .before .before .before .before .before .before .before .args in
-    let p = c .before .before .before .before .before .before .before .before .pre .0 .prime-q .above-one in
     let l = c .before .before .before .before .before .before .loop in
     let n = c .before .before .before .if1 .taken in
     let h : 0 < l .k = omega arith in (
       search needs,
-      rw (c .before .before .times .ensures, l .inv .1) (product-other (a .gr .q) p (λ j. j) (a .i) (a .ms .now) (l .k) h (l .inv .0) _ refl n),
+      rw (c .before .before .times .ensures, l .inv .1) (product-other (a .gr .q) (λ j. j) (a .i) (a .ms .now) (l .k) h (l .inv .0) _ refl n),
       rw (c .times2 .ensures, c .before .minus .ensures, l .inv .2)
-          (product-other (a .gr .q) p (λ j. sub (a .gr .q) j (a .i)) (a .i) (a .ms .now) (l .k) h (l .inv .0) _ refl n),
+          (product-other (a .gr .q) (λ j. sub (a .gr .q) j (a .i)) (a .i) (a .ms .now) (l .k) h (l .inv .0) _ refl n),
     )
 
 loop-less-2 : tie.Need-loop-less-2 Inv-loop μ-loop
@@ -73,12 +71,11 @@ loop-less-2 c = search needs
 loop-again-2 : tie.Need-loop-again-2 Inv-loop μ-loop
 loop-again-2 c =
     let a = c .before .before .before .before .before .args in
-    let p = c .before .before .before .before .before .pre .0 .prime-q .above-one in
     let l = c .before .before .before .loop in
     let h : 0 < l .k = omega arith in (
       search needs,
-      l .inv .1 ∙ product-self (a .gr .q) p (λ j. j) (a .i) (a .ms .now) (l .k) h (l .inv .0) _ refl (c .if1 .left),
-      l .inv .2 ∙ product-self (a .gr .q) p (λ j. sub (a .gr .q) j (a .i)) (a .i) (a .ms .now) (l .k) h (l .inv .0) _ refl (c .if1 .left),
+      l .inv .1 ∙ product-self (a .gr .q) (λ j. j) (a .i) (a .ms .now) (l .k) h (l .inv .0) _ refl (c .if1 .left),
+      l .inv .2 ∙ product-self (a .gr .q) (λ j. sub (a .gr .q) j (a .i)) (a .i) (a .ms .now) (l .k) h (l .inv .0) _ refl (c .if1 .left),
     )
 
 inverse-requires : tie.Need-inverse-requires Inv-loop μ-loop
@@ -87,7 +84,7 @@ inverse-requires c κs =
     let P = c .before .before .before .pre in
     let z : c .before .loop .k ≡ 0 = omega arith in
     let e = rw z at (c .before .loop .inv .2) in
-    let u = differences-unit (a .gr .q) (P .0 .prime-q) (a .i) (a .ms .now) (P .1) (P .2) in
+    let u = differences-nonzero (a .gr .q) (P .0 .prime-q) (a .i) (a .ms .now) (P .1) (P .2) in
     (P .0 .prime-q, rw e (u .0), rw e (u .1))
 
 times-requires-3 : tie.Need-times-requires-3 Inv-loop μ-loop

@@ -21,7 +21,7 @@ abbrev μ-loop : tie.MeasureT-loop
 μ-loop gr n i product₀ j₀ product j = j
 
 loop-holds : tie.Need-loop-holds Inv-loop μ-loop
-loop-holds c = let a = c .args in (search needs, product-start (a .gr .q) (c .pre .0 .prime-q .above-one) _ (a .i) _ (a .n) (sym (up-length 1 (a .n))))
+loop-holds c = let a = c .args in (search needs, product-start (a .gr .q) _ (a .i) _ (a .n) (sym (up-length 1 (a .n))))
 
 minus-requires : tie.Need-minus-requires Inv-loop μ-loop
 minus-requires c κs = search needs
@@ -39,7 +39,6 @@ loop-again : tie.Need-loop-again Inv-loop μ-loop
 loop-again c =
     let a = c .before .before .before .args in
     let l = c .before .before .loop in
-    let p = c .before .before .before .pre .0 .prime-q .above-one in
     let f : ℕ → ℕ = sub (a .gr .q) (a .i) in
     let h : 0 < l .j = omega arith in
     let b : l .j ≤ length (members (a .n)) = omega (arith, up-length 1 (a .n)) in
@@ -48,11 +47,11 @@ loop-again c =
     (λ w. (
       search needs,
       ap (λ (x : Exponent). x .0) (w .3)
-          ∙ rw (w .2 .ensures, w .1 .ensures, l .inv .1) (product-other (a .gr .q) p f (a .i) (members (a .n)) (l .j) h b (l .j) m (w .0 .taken)),
+          ∙ rw (w .2 .ensures, w .1 .ensures, l .inv .1) (product-other (a .gr .q) f (a .i) (members (a .n)) (l .j) h b (l .j) m (w .0 .taken)),
     ))
     (λ w. (
       search needs,
-      ap (λ (x : Exponent). x .0) (w .1) ∙ l .inv .1 ∙ product-self (a .gr .q) p f (a .i) (members (a .n)) (l .j) h b (l .j) m (w .0 .left),
+      ap (λ (x : Exponent). x .0) (w .1) ∙ l .inv .1 ∙ product-self (a .gr .q) f (a .i) (members (a .n)) (l .j) h b (l .j) m (w .0 .left),
     ))
     (c .if1 .came)
 

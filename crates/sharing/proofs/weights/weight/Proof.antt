@@ -1,7 +1,7 @@
 -- `weights::weight` meets its contract: the product that it inverts is not 0, since the members are below q.
 use borrow.Author.Needs.{needs}
 use Rattle.sharing.specs.Weights.{weightAt}
-use Rattle.sharing.proofs.Products.{gaps-unit}
+use Rattle.sharing.proofs.Products.{gaps-nonzero}
 use Rattle.sharing.proofs.weights.weight.Statement.{statement}
 use Rattle.sharing.proofs.weights.weight.Tie as tie
 
@@ -15,7 +15,7 @@ inverse-requires : tie.Need-inverse-requires
 inverse-requires c κs =
     let a = c .before .before .before .args in
     let P = c .before .before .before .pre in
-    let u = gaps-unit (a .gr .q) (P .0 .prime-q) (a .n) (a .i) (P .1) (P .2) in
+    let u = gaps-nonzero (a .gr .q) (P .0 .prime-q) (a .n) (a .i) (P .1) (P .2) in
     (P .0 .prime-q, rw (c .gaps .ensures) (u .0), rw (c .gaps .ensures) (u .1))
 
 times-requires : tie.Need-times-requires

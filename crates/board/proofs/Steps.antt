@@ -1,0 +1,77 @@
+-- The turns of the loops over a board's records: what a search or the checks from the record i on give, by what they give from the next on.
+use mathlib.Core.Path.{_≡_, sym, ap, _∙_}
+use mathlib.Core.Bool.{Bool, true, false}
+use mathlib.Core.List.{List}
+use Prim.Native.Nat.{ℕ, suc, _+_, _-_, _<_, _≤_}
+use native.Mathlib.Omega.{arith}
+use borrow.Author.Tests.{eq-eqb, ne-eqb}
+use lib.Dec.{eqb}
+use Rattle.words.specs.Choice.{pick}
+use Rattle.words.specs.Checks.{refusal}
+use Rattle.words.specs.declared.Record.{Record}
+use Rattle.words.proofs.Tests.{pick-true, pick-false}
+use Rattle.dealing.specs.Records.{recordAt}
+use Rattle.board.specs.Search.{first}
+use Rattle.board.specs.Board.{isShaped, isAbove, recordChecks}
+
+-- ---- counting up to n
+one-less : (n i : ℕ) → i < n → n - i ≡ suc (n - (i + 1))
+one-less n i h = omega arith
+
+none-left : (n i : ℕ) → n ≤ i → n - i ≡ 0
+none-left n i h = omega arith
+
+one-more : (i : ℕ) → suc i ≡ i + 1
+one-more i = omega arith
+
+-- ---- searches
+module _ (f : ℕ → Bool) (n i : ℕ) where
+  first-turn : i < n → first f i (n - i) ≡ pick (f i) i (first f (i + 1) (n - (i + 1)))
+  first-turn h = ap (first f i) (one-less n i h) ∙ ap (λ (j : ℕ). pick (f i) i (first f j (n - (i + 1)))) (one-more i)
+
+  pub first-next : i < n → f i ≡ false → first f i (n - i) ≡ first f (i + 1) (n - (i + 1))
+  first-next h e = first-turn h ∙ pick-false (f i) i _ e
+
+  pub first-stop : i < n → f i ≡ true → first f i (n - i) ≡ i
+  first-stop h e = first-turn h ∙ pick-true (f i) i _ e
+
+  pub first-end : n ≤ i → first f i (n - i) ≡ i
+  first-end h = ap (first f i) (none-left n i h)
+
+-- ---- form and order
+-- the record i is the first or above the one before
+abbrev pub inOrder : List ℕ → ℕ → Bool
+inOrder b i = pick (eqb i 0) true (isAbove (recordAt b (i - 1)) (recordAt b i))
+
+-- the tests of the record r that was read at i, with that of the one before
+module _ (b : List ℕ) (i : ℕ) {r : Record} (e : r ≡ recordAt b i) where
+  pub shape-found : (n : ℕ) {s t : Bool} → s ≡ isShaped n r → s ≡ t → isShaped n (recordAt b i) ≡ t
+  shape-found n f g = ap (isShaped n) (sym e) ∙ sym f ∙ g
+
+  pub order-found : {q : Record} {s t : Bool} → 0 < i → q ≡ recordAt b (i - 1) → s ≡ isAbove q r → s ≡ t → inOrder b i ≡ t
+  order-found h d f g = pick-false (eqb i 0) true _ (ne-eqb i 0 (λ z. omega arith)) ∙ (λ j. isAbove (sym d j) (sym e j)) ∙ sym f ∙ g
+
+pub order-first : (b : List ℕ) (i : ℕ) → i ≤ 0 → inOrder b i ≡ true
+order-first b i h = pick-true (eqb i 0) true _ (eq-eqb i 0 (omega arith))
+
+module _ (n : ℕ) (b : List ℕ) (m i : ℕ) where
+  -- what the records from j on are refused by
+  abbrev pub refusalFrom : ℕ → ℕ
+  refusalFrom j = refusal (recordChecks n b j (m - j))
+
+  record-turn : i < m → refusalFrom i ≡ pick (isShaped n (recordAt b i)) (pick (inOrder b i) (refusalFrom (i + 1)) 5) 4
+  record-turn h =
+      ap (λ (k : ℕ). refusal (recordChecks n b i k)) (one-less m i h)
+      ∙ ap (λ (j : ℕ). pick (isShaped n (recordAt b i)) (pick (inOrder b i) (refusal (recordChecks n b j (m - (i + 1)))) 5) 4) (one-more i)
+
+  pub unshaped : i < m → isShaped n (recordAt b i) ≡ false → refusalFrom i ≡ 4
+  unshaped h e = record-turn h ∙ pick-false (isShaped n (recordAt b i)) _ 4 e
+
+  pub unordered : i < m → isShaped n (recordAt b i) ≡ true → inOrder b i ≡ false → refusalFrom i ≡ 5
+  unordered h e f = record-turn h ∙ pick-true (isShaped n (recordAt b i)) _ 4 e ∙ pick-false (inOrder b i) _ 5 f
+
+  pub record-passed : i < m → isShaped n (recordAt b i) ≡ true → inOrder b i ≡ true → refusalFrom i ≡ refusalFrom (i + 1)
+  record-passed h e f = record-turn h ∙ pick-true (isShaped n (recordAt b i)) _ 4 e ∙ pick-true (inOrder b i) _ 5 f
+
+  pub records-passed : m ≤ i → refusalFrom i ≡ 0
+  records-passed h = ap (λ (k : ℕ). refusal (recordChecks n b i k)) (none-left m i h)

@@ -1,0 +1,112 @@
+-- `records_refusal` meets its contract. The loop's invariant: the records from i on are refused as all of them are.
+use mathlib.Core.Path.{_≡_, sym, ap, _∙_}
+use mathlib.Core.Bool.{true}
+use mathlib.Core.Logic.{⊎-elim}
+use Prim.Native.Nat.{ℕ, _-_}
+use native.Mathlib.Omega.{arith}
+use borrow.Author.Needs.{needs}
+use borrow.Author.Tests.{not-true, not-false}
+use Rattle.words.specs.Checks.{refusal}
+use Rattle.board.specs.Search.{recordsIn}
+use Rattle.board.specs.Board.{recordChecks}
+use Rattle.board.proofs.Steps.{inOrder, shape-found, order-found, order-first, unshaped, unordered, record-passed, records-passed}
+use Rattle.board.proofs.form.records_refusal.Statement.{statement}
+use Rattle.board.proofs.form.records_refusal.Tie as tie
+
+abbrev Inv-loop : tie.InvT-loop
+Inv-loop n b all i₀ i = (all ≡ recordsIn b) × (refusal (recordChecks n b 0 (recordsIn b)) ≡ refusal (recordChecks n b i (all - i)))
+
+abbrev μ-loop : tie.MeasureT-loop
+μ-loop n b all i₀ i = all - i
+
+records-requires : tie.Need-records-requires Inv-loop μ-loop
+records-requires c κs = search needs
+
+loop-holds : tie.Need-loop-holds Inv-loop μ-loop
+loop-holds c =
+    let a = c .before .before .args in
+    let e : recordsIn (a .b .now) ≡ c .records .result - 0 = omega (arith, c .records .ensures) in
+    (c .records .ensures, ap (λ (m : ℕ). refusal (recordChecks (a .n) (a .b .now) 0 m)) e)
+
+record-at-requires : tie.Need-record-at-requires Inv-loop μ-loop
+record-at-requires c κs = search needs
+
+is-shaped-requires : tie.Need-is-shaped-requires Inv-loop μ-loop
+is-shaped-requires c κs = search needs
+
+returns : tie.Need-returns Inv-loop μ-loop
+returns c =
+    let w = c .before .before .before in
+    let l = w .before .loop in
+    let a = w .before .before .before .before .args in
+    let s = shape-found (a .b .now) (l .i) (c .before .before .record-at .ensures) (a .n) (c .before .is-shaped .ensures) (not-true _ (c .if1 .taken)) in
+    sym (l .inv .1 ∙ unshaped (a .n) (a .b .now) (w .before .before .records .result) (l .i) (w .loop-test .taken) s)
+
+sub-record-at : tie.Need-sub-record-at Inv-loop μ-loop
+sub-record-at c = search needs
+
+record-at-requires-2 : tie.Need-record-at-requires-2 Inv-loop μ-loop
+record-at-requires-2 c κs = search needs
+
+is-above-requires : tie.Need-is-above-requires Inv-loop μ-loop
+is-above-requires c κs = search needs
+
+returns-2 : tie.Need-returns-2 Inv-loop μ-loop
+returns-2 c =
+    let v = c .before .before .before .before in
+    let w = v .before .before .before in
+    let l = w .before .loop in
+    let a = w .before .before .before .before .args in
+    let r = v .before .before .record-at .ensures in
+    let s = shape-found (a .b .now) (l .i) r (a .n) (v .before .is-shaped .ensures) (not-false _ (v .if1 .left)) in
+    let o =
+    order-found (a .b .now) (l .i) r (c .before .before .before .if2 .taken) (c .before .before .record-at2 .ensures) (c .before .is-above .ensures)
+    (not-true _ (c .if3 .taken)) in
+    sym (l .inv .1 ∙ unordered (a .n) (a .b .now) (w .before .before .records .result) (l .i) (w .loop-test .taken) s o)
+
+add-i : tie.Need-add-i Inv-loop μ-loop
+add-i c = search needs
+
+loop-less : tie.Need-loop-less Inv-loop μ-loop
+loop-less c = search needs
+
+loop-again : tie.Need-loop-again Inv-loop μ-loop
+loop-again c =
+    let v = c .before in
+    let w = v .before .before .before in
+    let l = w .before .loop in
+    let a = w .before .before .before .before .args in
+    let r = v .before .before .record-at .ensures in
+    let s = shape-found (a .b .now) (l .i) r (a .n) (v .before .is-shaped .ensures) (not-false _ (v .if1 .left)) in
+    let o : inOrder (a .b .now) (l .i) ≡ true =
+    ⊎-elim
+    (λ x. order-found (a .b .now) (l .i) r (x .0 .taken) (x .1 .ensures) (x .2 .ensures) (not-false _ (x .3 .left)))
+    (λ x. order-first (a .b .now) (l .i) (x .left))
+    (c .if2 .came) in
+    (l .inv .0, l .inv .1 ∙ record-passed (a .n) (a .b .now) (w .before .before .records .result) (l .i) (w .loop-test .taken) s o)
+
+returns-3 : tie.Need-returns-3 Inv-loop μ-loop
+returns-3 c =
+    let l = c .before .loop in
+    let a = c .before .before .before .before .args in
+    sym (l .inv .1 ∙ records-passed (a .n) (a .b .now) (c .before .before .records .result) (l .i) (c .loop-test .left))
+
+pub records-refusal-spec : {M : Type 1} → statement M
+records-refusal-spec =
+    tie.close
+    (tie.spec
+    Inv-loop
+    μ-loop
+    records-requires
+    loop-holds
+    record-at-requires
+    is-shaped-requires
+    returns
+    sub-record-at
+    record-at-requires-2
+    is-above-requires
+    returns-2
+    add-i
+    loop-less
+    loop-again
+    returns-3)

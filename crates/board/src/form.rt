@@ -1,0 +1,79 @@
+// The form and order of a board's records, refused record by record.
+ghost use mathlib.Core.Path.{_≡_};
+ghost use Rattle.words.specs.Checks.{refusal};
+ghost use Rattle.board.specs.Search.{recordsIn};
+ghost use Rattle.board.specs.Board.{isShaped, isAbove, recordChecks, formChecks};
+use crate::search::records;
+use dealing::is_key_record;
+use dealing::is_line_record;
+use dealing::is_opening_record;
+use dealing::is_share_record;
+use dealing::record_at;
+use sharing::is_member;
+use words::Record;
+
+// Whether r is a record of the table, for n members.
+fn is_shaped(n: u32, r: Record) -> bool
+    ensures { λ a. ⌜ a ≡ isShaped n r ⌝ }
+{
+    if is_key_record(r) {
+        return is_member(n, r.w2);
+    }
+    if is_line_record(r) {
+        return is_member(n, r.w1) && is_member(n, r.w2);
+    }
+    if is_opening_record(r) {
+        return is_member(n, r.w1);
+    }
+    if is_share_record(r) {
+        return is_member(n, r.w1) && is_member(n, r.w2);
+    }
+    false
+}
+
+// Whether s is above r: by kind, then dealer, then member.
+fn is_above(r: Record, s: Record) -> bool
+    ensures { λ a. ⌜ a ≡ isAbove r s ⌝ }
+{
+    if r.w0 != s.w0 {
+        return r.w0 < s.w0;
+    }
+    if r.w1 != s.w1 {
+        return r.w1 < s.w1;
+    }
+    r.w2 < s.w2
+}
+
+// Record by record: 4 a record that is none of the table; 5 a record that is not above the one before. 0 where there is none.
+fn records_refusal(n: u32, b: &[u8]) -> u32
+    ensures { λ r. ⌜ r ≡ refusal (recordChecks n (now (b .entry)) 0 (recordsIn (now (b .entry)))) ⌝ }
+{
+    let all = records(b);
+    let mut i = 0;
+    while i < all {
+        let r = record_at(b, i);
+        if !is_shaped(n, r) {
+            return 4;
+        }
+        if i > 0 {
+            if !is_above(record_at(b, i - 1), r) {
+                return 5;
+            }
+        }
+        i += 1;
+    }
+    0
+}
+
+// What the form of a board is refused by: 3 not whole records or more than 2,048; 4 and 5 record by record. 0 where it is not.
+pub fn form_refusal(n: u32, b: &[u8]) -> u32
+    ensures { λ r. ⌜ r ≡ refusal (formChecks n (now (b .entry))) ⌝ }
+{
+    if b.len() % 32 != 0 {
+        return 3;
+    }
+    if records(b) > 2048 {
+        return 3;
+    }
+    records_refusal(n, b)
+}

@@ -1,0 +1,51 @@
+// The part of a board that holds a dealer's lines.
+ghost use mathlib.Core.Path.{_≡_};
+ghost use Rattle.words.specs.Checks.{outcome};
+ghost use Rattle.sharing.specs.Answer.{checkOutcomeOf};
+ghost use Rattle.board.specs.Board.{linesOf, linesChecks, linesPart};
+use crate::form::form_refusal;
+use crate::search::lines_end;
+use crate::search::lines_start;
+use group::GroupAnswer;
+use sharing::CheckAnswer;
+use sharing::Round;
+use sharing::is_member;
+use sharing::round_group;
+
+// The lines of dealer d as they lie on the board, where nothing is refused.
+pub fn lines_of(b: &[u8], d: u32) -> &[u8]
+    ensures { λ r. ⌜ now r ≡ linesOf (now (b .entry)) d ⌝ }
+{
+    let from = 32 * lines_start(b, d);
+    let to = 32 * lines_end(b, d);
+    &b[from..to]
+}
+
+// Whether the lines of dealer d can be told. Refused: 1 and 2 as round_group; 8 d is no member; 3, 4 and 5 the board's form.
+pub fn lines_check(rd: Round, d: u32, b: &[u8]) -> CheckAnswer
+    ensures { λ r. ⌜ checkOutcomeOf r ≡ outcome (linesChecks rd d (now (b .entry))) tt ⌝ }
+{
+    match round_group(rd) {
+        GroupAnswer::Refused(k) => CheckAnswer::Refused(k),
+        GroupAnswer::Value(_) => {
+            if !is_member(rd.n, d) {
+                return CheckAnswer::Refused(8);
+            }
+            let k = form_refusal(rd.n, b);
+            if k != 0 {
+                return CheckAnswer::Refused(k);
+            }
+            CheckAnswer::Passed
+        }
+    }
+}
+
+// The lines of dealer d: the part of the caller's board that holds them, empty where lines_check refuses.
+pub fn dealer_lines(rd: Round, d: u32, b: &[u8]) -> &[u8]
+    ensures { λ r. ⌜ now r ≡ linesPart rd d (now (b .entry)) ⌝ }
+{
+    match lines_check(rd, d, b) {
+        CheckAnswer::Refused(_) => &b[0..0],
+        CheckAnswer::Passed => lines_of(b, d),
+    }
+}

@@ -1,0 +1,22 @@
+// Cases of writing an opened share. The arguments are group, n, t, the dealer, the member and the buffer's size. The
+// payload has Y, the secret key and the nonce; the buffer is lent with the payload's first bytes in it.
+use crate::payload;
+use crate::print;
+use group::Element;
+use group::Exponent;
+use words::Record;
+
+pub fn run(case: Record, space: &mut [u8]) -> bool {
+    let ws = payload::list(space, 0);
+    let e = Element(ws[0]);
+    let x = Exponent(ws[1]);
+    let w = Exponent(ws[2]);
+    let rd = payload::round(case);
+    let size = case.w6 as usize;
+    if space.len() < size {
+        return false;
+    }
+    let answer = dealing::write_share(rd, case.w4, case.w5, e, x, w, &mut space[0..size]);
+    print::written(b"write_share ", answer, space, size);
+    true
+}

@@ -1,0 +1,72 @@
+//! Rounds: a group, the number of members and the threshold.
+
+use crate::answer::{require, Answer};
+use crate::group::{group, Group};
+
+/// The most members that a round may have.
+const MOST: u32 = 31;
+
+/// The figures of a round as they are lent.
+#[derive(Clone, Copy)]
+pub struct Figures {
+    pub number: u32,
+    pub n: u32,
+    pub t: u32,
+}
+
+/// A round whose figures are proper.
+pub struct Round {
+    pub number: u32,
+    pub group: Group,
+    pub n: u32,
+    pub t: u32,
+}
+
+impl Figures {
+    /// The checks by which every operation begins: 1 no group of that number; 2 n or t outside its range.
+    pub fn round(self) -> Answer<Round> {
+        let Figures { number, n, t } = self;
+        let group = group(number)?;
+        require((1..=MOST).contains(&n) && n < group.q, 2)?;
+        require((1..=n).contains(&t), 2)?;
+        Ok(Round {
+            number,
+            group,
+            n,
+            t,
+        })
+    }
+}
+
+impl Round {
+    /// Whether the number is that of a member, who may also deal.
+    pub fn has_member(&self, number: u32) -> bool {
+        (1..=self.n).contains(&number)
+    }
+}
+
+#[cfg(test)]
+mod tests {
+    use super::*;
+
+    fn refusal(number: u32, n: u32, t: u32) -> Option<u32> {
+        Figures { number, n, t }.round().err()
+    }
+
+    #[test]
+    fn ranges() {
+        assert_eq!(refusal(1, 10, 10), None);
+        assert_eq!(refusal(1, 11, 10), Some(2));
+        assert_eq!(refusal(2, 31, 1), None);
+        assert_eq!(refusal(3, 32, 1), Some(2));
+        assert_eq!(refusal(3, 0, 0), Some(2));
+        assert_eq!(refusal(3, 4, 0), Some(2));
+        assert_eq!(refusal(3, 4, 5), Some(2));
+    }
+
+    #[test]
+    fn the_group_counts_first() {
+        assert_eq!(refusal(0, 0, 0), Some(1));
+        assert_eq!(refusal(4, 2, 1), Some(1));
+    }
+}

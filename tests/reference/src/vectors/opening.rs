@@ -1,0 +1,121 @@
+//! Cases of the opening. The arguments are group, n, t, the opening and the number of commitments; the payload has
+//! these.
+
+use super::faults::{singly_and_in_pairs, Fault};
+use super::sample::{fours, list, other_element, places, proper, rounds, FOUR};
+use super::{bytes, passed, Operation, Vectors};
+use crate::group::G;
+use crate::numbers::Numbers;
+use crate::round::Figures;
+use crate::sharing::{opening, powers_at};
+
+const OPENING: Operation = Operation {
+    number: 4,
+    name: "opening",
+};
+
+#[derive(Clone)]
+struct Case {
+    figures: Figures,
+    commitments: Vec<u32>,
+    s: u32,
+}
+
+impl Case {
+    fn add(&self, vectors: &mut Vectors) -> Option<u32> {
+        let Figures { number, n, t } = self.figures;
+        let arguments = [number, n, t, self.s, self.commitments.len() as u32];
+        let answer = opening(self.figures, &self.commitments, self.s);
+        vectors.add(
+            &OPENING,
+            &arguments,
+            &bytes(&self.commitments),
+            passed(answer),
+        )
+    }
+}
+
+pub fn add(vectors: &mut Vectors) {
+    by_hand(vectors);
+    let mut numbers = Numbers::new(4);
+    for figures in rounds() {
+        varied(vectors, figures, &mut numbers);
+    }
+    for figures in fours() {
+        refused(vectors, figures, &mut numbers);
+    }
+}
+
+/// Every opening of the commitments by hand, and of others that no polynomial carries.
+fn by_hand(vectors: &mut Vectors) {
+    let group = proper(FOUR).group;
+    let uncarried = [0, 7, 1, 0].map(|exponent| group.power(G, exponent));
+    for commitments in [[9, 16, 8, 4], [9, 16, 9, 4], uncarried] {
+        for s in 0..=group.q + 3 {
+            let case = Case {
+                figures: FOUR,
+                commitments: commitments.to_vec(),
+                s,
+            };
+            case.add(vectors);
+        }
+    }
+}
+
+/// The right opening and others; then the right one with each commitment multiplied by 4, which leaves it right for
+/// those of the members above t, and with each commitment negative.
+fn varied(vectors: &mut Vectors, figures: Figures, numbers: &mut Numbers) {
+    let round = proper(figures);
+    let (p, q) = (round.group.p, round.group.q);
+    let polynomial = list(numbers, round.t, q);
+    let right = Case {
+        figures,
+        commitments: powers_at(&round, G, &polynomial),
+        s: polynomial[0],
+    };
+    right.add(vectors);
+    for s in [(right.s + 1) % q, 0, q - 1, right.s + q, numbers.below(q)] {
+        let mut case = right.clone();
+        case.s = s;
+        case.add(vectors);
+    }
+    for k in places(right.commitments.len()) {
+        let v = right.commitments[k];
+        for changed in [round.group.product(v, G), p - v] {
+            let mut case = right.clone();
+            case.commitments[k] = changed;
+            case.add(vectors);
+        }
+    }
+}
+
+fn refused(vectors: &mut Vectors, figures: Figures, numbers: &mut Numbers) {
+    let round = proper(figures);
+    let (p, q) = (round.group.p, round.group.q);
+    let polynomial = list(numbers, 2, q);
+    let right = Case {
+        figures,
+        commitments: powers_at(&round, G, &polynomial),
+        s: polynomial[0],
+    };
+    let other = |v: &mut u32| *v = other_element(&round.group, *v);
+    let faults: [Fault<Case>; 16] = [
+        (1, &|c| c.figures.number = 0),
+        (1, &|c| c.figures.number = 4),
+        (1, &|c| c.figures.number = u32::MAX),
+        (2, &|c| c.figures.n = 0),
+        (2, &|c| c.figures.n = 32),
+        (2, &|c| c.figures.t = 0),
+        (2, &|c| c.figures.t = 5),
+        (3, &|c| c.commitments.truncate(3)),
+        (3, &|c| c.commitments.push(1)),
+        (6, &|c| c.commitments[0] = 0),
+        (6, &|c| c.commitments[2] = p - 1),
+        (6, &|c| c.commitments[2] = p),
+        (7, &|c| c.s = q),
+        (7, &|c| c.s += q),
+        (7, &|c| c.s = u32::MAX),
+        (11, &|c| other(&mut c.commitments[1])),
+    ];
+    singly_and_in_pairs(&right, &faults, |case| case.add(vectors));
+}

@@ -1,0 +1,80 @@
+//! Rounds and figures of which cases are made.
+
+use crate::group::{Group, G};
+use crate::numbers::Numbers;
+use crate::round::{Figures, Round};
+
+/// The round of the figures by hand.
+pub const FOUR: Figures = Figures {
+    number: 1,
+    n: 4,
+    t: 2,
+};
+
+/// n and t of the sample's rounds in every group: with n = t, with t = 1, and up to the most members in group 1.
+const EVERYWHERE: [(u32, u32); 9] = [
+    (1, 1),
+    (2, 1),
+    (2, 2),
+    (3, 2),
+    (4, 2),
+    (7, 4),
+    (10, 1),
+    (10, 6),
+    (10, 10),
+];
+
+/// n and t of further rounds in groups 2 and 3: the most members of all.
+const LARGEST: [(u32, u32); 3] = [(31, 1), (31, 16), (31, 31)];
+
+/// The sample's rounds.
+pub fn rounds() -> Vec<Figures> {
+    let mut rounds = Vec::new();
+    for number in 1..=3 {
+        let largest = if number == 1 { &[][..] } else { &LARGEST };
+        for &(n, t) in EVERYWHERE.iter().chain(largest) {
+            rounds.push(Figures { number, n, t });
+        }
+    }
+    rounds
+}
+
+/// Rounds of four members and threshold two, in the smallest and the largest group.
+pub fn fours() -> [Figures; 2] {
+    [1, 3].map(|number| Figures { number, ..FOUR })
+}
+
+pub fn proper(figures: Figures) -> Round {
+    figures.round().expect("a proper round")
+}
+
+/// So many numbers below the limit.
+pub fn list(numbers: &mut Numbers, count: u32, limit: u32) -> Vec<u32> {
+    (0..count).map(|_| numbers.below(limit)).collect()
+}
+
+/// The places of a list where a fault is put: all of a short one, three of a long one.
+pub fn places(length: usize) -> Vec<usize> {
+    match length {
+        0..=4 => (0..length).collect(),
+        _ => vec![0, length / 2, length - 1],
+    }
+}
+
+/// Another element for an element. A figure that is none stays.
+pub fn other_element(group: &Group, figure: u32) -> u32 {
+    if group.is_element(figure) {
+        group.product(figure, G)
+    } else {
+        figure
+    }
+}
+
+/// The next exponent for an exponent. A figure that is none stays.
+pub fn other_exponent(group: &Group, figure: u32) -> u32 {
+    if figure < group.q {
+        (figure + 1) % group.q
+    } else {
+        figure
+    }
+}

@@ -1,0 +1,137 @@
+//! Cases of writing an opened share. The arguments are group, n, t, the dealer, the member and the buffer's size. The
+//! payload has Y, the secret key and the nonce; the buffer is lent with the payload's first bytes in it. The line has
+//! the buffer's bytes at the end.
+
+use super::faults::{singly_and_in_pairs, Fault};
+use super::sample::{fours, proper, rounds, FOUR};
+use super::{buffered, Operation, Vectors};
+use crate::group::G;
+use crate::numbers::Numbers;
+use crate::round::Figures;
+use crate::share::write_share;
+
+const WRITE_SHARE: Operation = Operation {
+    number: 9,
+    name: "write_share",
+};
+
+#[derive(Clone)]
+struct Case {
+    figures: Figures,
+    dealer: u32,
+    member: u32,
+    encrypted: u32,
+    secret_key: u32,
+    nonce: u32,
+    size: usize,
+}
+
+impl Case {
+    /// Any proper figures.
+    fn any(figures: Figures, numbers: &mut Numbers) -> Case {
+        let group = proper(figures).group;
+        Case {
+            figures,
+            dealer: 1 + numbers.below(figures.n),
+            member: 1 + numbers.below(figures.n),
+            encrypted: group.power(G, numbers.below(group.q)),
+            secret_key: 1 + numbers.below(group.q - 1),
+            nonce: numbers.below(group.q),
+            size: 32,
+        }
+    }
+
+    fn add(&self, vectors: &mut Vectors) -> Option<u32> {
+        let Figures { number, n, t } = self.figures;
+        let arguments = [number, n, t, self.dealer, self.member, self.size as u32];
+        let payload = buffered(&[self.encrypted, self.secret_key, self.nonce], self.size);
+        let mut buffer = payload[..self.size].to_vec();
+        let answer = write_share(
+            self.figures,
+            self.dealer,
+            self.member,
+            self.encrypted,
+            self.secret_key,
+            self.nonce,
+            &mut buffer,
+        );
+        vectors.add_written(&WRITE_SHARE, &arguments, &payload, answer, &buffer)
+    }
+}
+
+pub fn add(vectors: &mut Vectors) {
+    let mut numbers = Numbers::new(9);
+    every_key(vectors, &mut numbers);
+    for figures in rounds() {
+        varied(vectors, figures, &mut numbers);
+    }
+    for figures in fours() {
+        refused(vectors, figures, &mut numbers);
+    }
+}
+
+/// Every Y and every secret key of group 1, and some that are none.
+fn every_key(vectors: &mut Vectors, numbers: &mut Numbers) {
+    let any = Case::any(FOUR, numbers);
+    for encrypted in 0..=24 {
+        Case { encrypted, ..any }.add(vectors);
+    }
+    for secret_key in 0..=12 {
+        Case { secret_key, ..any }.add(vectors);
+    }
+}
+
+/// Any figures, and Y, secret key and nonce at the ends of their range.
+fn varied(vectors: &mut Vectors, figures: Figures, numbers: &mut Numbers) {
+    let q = proper(figures).group.q;
+    let any = Case::any(figures, numbers);
+    any.add(vectors);
+    Case {
+        encrypted: 1,
+        ..any
+    }
+    .add(vectors);
+    for end in [1, q - 1] {
+        Case {
+            secret_key: end,
+            nonce: q - end,
+            ..any
+        }
+        .add(vectors);
+        Case {
+            nonce: end - 1,
+            ..any
+        }
+        .add(vectors);
+    }
+}
+
+fn refused(vectors: &mut Vectors, figures: Figures, numbers: &mut Numbers) {
+    let group = proper(figures).group;
+    let (p, q) = (group.p, group.q);
+    let faults: [Fault<Case>; 21] = [
+        (1, &|c| c.figures.number = 0),
+        (1, &|c| c.figures.number = 4),
+        (2, &|c| c.figures.n = 0),
+        (2, &|c| c.figures.n = 32),
+        (2, &|c| c.figures.t = 0),
+        (2, &|c| c.figures.t = 5),
+        (8, &|c| c.dealer = 0),
+        (8, &|c| c.dealer = 5),
+        (8, &|c| c.member = 0),
+        (8, &|c| c.member = 5),
+        (3, &|c| c.size = 0),
+        (3, &|c| c.size = 31),
+        (3, &|c| c.size = 33),
+        (6, &|c| c.encrypted = 0),
+        (6, &|c| c.encrypted = p - 1),
+        (6, &|c| c.encrypted = p),
+        (7, &|c| c.secret_key = 0),
+        (7, &|c| c.secret_key = q),
+        (7, &|c| c.secret_key = u32::MAX),
+        (7, &|c| c.nonce = q),
+        (7, &|c| c.nonce = u32::MAX),
+    ];
+    let any = Case::any(figures, numbers);
+    singly_and_in_pairs(&any, &faults, |case| case.add(vectors));
+}
