@@ -11,12 +11,24 @@ ghost use Rattle.sharing.specs.Round.{groupIn, roundChecks, members};
 ghost use Rattle.sharing.specs.Answer.{checkOutcomeOf, degreeProduct};
 ghost use Rattle.dealing.specs.Message.{checkPolynomial};
 ghost use Rattle.dealing.specs.Dealing.{vIn, YIn, rIn, cIn, vsIn, isLineOf, recomputed, judgeDealingChecks, judgeDealingOutcome};
-
 use crate::logarithms::announced;
-use crate::message::{check_polynomial, dealing_challenge};
-use crate::records::{all_keys, column, is_line_record, record_at};
-use group::{Element, Exponent, Group, GroupAnswer, all_elements, all_exponents};
-use sharing::{CheckAnswer, Round, degree_product, is_member, round_group};
+use crate::message::check_polynomial;
+use crate::message::dealing_challenge;
+use crate::records::all_keys;
+use crate::records::column;
+use crate::records::is_line_record;
+use crate::records::record_at;
+use group::Element;
+use group::Exponent;
+use group::Group;
+use group::GroupAnswer;
+use group::all_elements;
+use group::all_exponents;
+use sharing::CheckAnswer;
+use sharing::Round;
+use sharing::degree_product;
+use sharing::is_member;
+use sharing::round_group;
 
 // Whether the record of member i is a line of the dealer d for him. Internal: callers ensure that the record is there.
 fn is_line_of(d: u32, lines: &[u8], i: u32) -> bool

@@ -12,12 +12,18 @@ ghost use Rattle.sharing.specs.Round.{groupIn, roundChecks, members};
 ghost use Rattle.sharing.specs.Answer.{checkOutcomeOf};
 ghost use Rattle.dealing.specs.Records.{recordsBytes};
 ghost use Rattle.dealing.specs.Dealing.{dealtC, dealtLine, writtenDealing, writeDealingChecks, writeDealingOutcome};
-
 use crate::logarithms::response;
 use crate::message::dealing_challenge;
 use crate::records::all_keys;
-use group::{Element, Exponent, Group, GroupAnswer, all_exponents};
-use sharing::{CheckAnswer, Round, is_member, round_group};
+use group::Element;
+use group::Exponent;
+use group::Group;
+use group::GroupAnswer;
+use group::all_exponents;
+use sharing::CheckAnswer;
+use sharing::Round;
+use sharing::is_member;
+use sharing::round_group;
 use words::Record;
 
 // The base b to the value of the polynomial cs at member i: the commitment for b = g, the encrypted share for his key.
@@ -110,7 +116,15 @@ fn sizes_fit(rd: Round, ys: &[u32], cs: &[u32], ws: &[u32], room: usize) -> bool
 }
 
 // The first number refused behind those of the round, 0 where nothing is. Internal: callers hand over the round's group.
-fn write_refusal(gr: Group, rd: Round, d: u32, ys: &[u32], cs: &[u32], ws: &[u32], room: usize) -> u32
+fn write_refusal(
+    gr: Group,
+    rd: Round,
+    d: u32,
+    ys: &[u32],
+    cs: &[u32],
+    ws: &[u32],
+    room: usize,
+) -> u32
     requires { ⌜ gr ≡ groupIn rd ⌝ }
     ensures { λ r. ⌜ r ≡ refusal (drop 2 (writeDealingChecks rd d (now (ys .entry)) (now (cs .entry)) (now (ws .entry)) room)) ⌝ }
 {
@@ -135,7 +149,14 @@ fn write_refusal(gr: Group, rd: Round, d: u32, ys: &[u32], cs: &[u32], ws: &[u32
 // Writes a dealing of the dealer d into the lent bytes, from the keys ys, the polynomial cs and the nonces ws. Refused, with no byte
 // changed: 1 and 2 as round_group; 8 d is no member; 3 not n keys, t coefficients, n nonces or 32n bytes; 6 a key that is no element
 // or is 1; 7 a coefficient or a nonce not below q.
-pub fn write_dealing(rd: Round, d: u32, ys: &[u32], cs: &[u32], ws: &[u32], out: &mut [u8]) -> CheckAnswer
+pub fn write_dealing(
+    rd: Round,
+    d: u32,
+    ys: &[u32],
+    cs: &[u32],
+    ws: &[u32],
+    out: &mut [u8],
+) -> CheckAnswer
     ensures { λ r. ⌜ checkOutcomeOf r ≡ writeDealingOutcome rd d (now (ys .entry)) (now (cs .entry)) (now (ws .entry)) (length (now (out .entry))) ⌝ }
     ensures { λ r. ⌜ now (out .exit) ≡ lentAfter (writeDealingChecks rd d (now (ys .entry)) (now (cs .entry)) (now (ws .entry)) (length (now (out .entry)))) (writtenDealing rd d (now (ys .entry)) (now (cs .entry)) (now (ws .entry))) (now (out .entry)) ⌝ }
 {

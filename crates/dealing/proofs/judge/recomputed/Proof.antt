@@ -26,7 +26,7 @@ abbrev secondOf : Group → List ℕ → List ℕ → ℕ → ℕ
 secondOf G ys b i = announced G (entry ys i) (YIn b i) (cIn b i) (rIn b i)
 
 abbrev Inv-loop : tie.InvT-loop
-Inv-loop gr rd d ys lines vs₀ es₀ a1s₀ a2s₀ i₀ vs es a1s a2s i = 
+Inv-loop gr rd d ys lines vs₀ es₀ a1s₀ a2s₀ i₀ vs es a1s a2s i =
     (i ≤ length ys) × (length ys ≤ 31)
     × HoldsFirst (vIn lines) i vs × HoldsFirst (YIn lines) i es × HoldsFirst (firstOf gr lines) i a1s × HoldsFirst (secondOf gr ys lines) i a2s
 

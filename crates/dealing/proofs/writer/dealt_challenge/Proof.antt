@@ -27,7 +27,7 @@ abbrev secondOf : Group → List ℕ → List ℕ → ℕ → ℕ
 secondOf G ys ws i = pow (G .p) (entry ys i) (entry ws i)
 
 abbrev Inv-loop : tie.InvT-loop
-Inv-loop gr rd d ys cs ws vs₀ es₀ a1s₀ a2s₀ i₀ vs es a1s a2s i = 
+Inv-loop gr rd d ys cs ws vs₀ es₀ a1s₀ a2s₀ i₀ vs es a1s a2s i =
     (i ≤ length ys) × (length ys ≤ 31)
     × HoldsFirst (dealtV gr cs) i vs × HoldsFirst (dealtY gr ys cs) i es × HoldsFirst (firstOf gr ws) i a1s × HoldsFirst (secondOf gr ys ws) i a2s
 

@@ -16,7 +16,7 @@ use Rattle.dealing.proofs.writer.put_lines.Statement.{statement}
 use Rattle.dealing.proofs.writer.put_lines.Tie as tie
 
 abbrev Inv-loop : tie.InvT-loop
-Inv-loop gr d ys cs ws c out₀ i₀ out i = 
+Inv-loop gr d ys cs ws c out₀ i₀ out i =
     (i ≤ length ys) × (length out ≡ length out₀)
     × (recordsBytes (dealtLine gr d ys cs ws (c .0)) (members (length ys)) ≡ take (32 * i) out ++ recordsBytes (dealtLine gr d ys cs ws (c .0)) (drop i (members (length ys))))
 
