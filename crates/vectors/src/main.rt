@@ -5,12 +5,14 @@
 mod degree;
 mod digest;
 mod equality;
+mod judge_dealing;
 mod judge_share;
 mod opening;
 mod payload;
 mod power;
 mod print;
 mod recovery;
+mod write_dealing;
 mod write_share;
 
 use libc::STDIN_FILENO;
@@ -34,6 +36,8 @@ fn run(case: Record, space: &mut [u8], count: usize) -> bool {
         4 => opening::run(case, space),
         5 => recovery::run(case, space),
         6 => equality::run(case, space),
+        7 => write_dealing::run(case, space),
+        8 => judge_dealing::run(case, space),
         9 => write_share::run(case, space),
         10 => judge_share::run(case, space),
         _ => false,

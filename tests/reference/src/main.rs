@@ -2,6 +2,7 @@
 //! with the product, and writes the vectors that the product is run on.
 
 mod answer;
+mod dealing;
 mod equality;
 mod group;
 mod message;

@@ -31,7 +31,7 @@ fn weight(round: &Round, i: u32, coefficients: &[u32]) -> u32 {
 }
 
 /// The product of the commitments to their weights.
-fn degree_product(round: &Round, commitments: &[u32], coefficients: &[u32]) -> u32 {
+pub fn degree_product(round: &Round, commitments: &[u32], coefficients: &[u32]) -> u32 {
     let group = &round.group;
     let mut product = 1;
     for (i, &v) in (1..).zip(commitments) {

@@ -9,11 +9,13 @@ mod degree;
 pub mod digest;
 mod equality;
 mod faults;
+mod judge_dealing;
 mod judge_share;
 mod opening;
 mod power;
 mod recovery;
 mod sample;
+mod write_dealing;
 mod write_share;
 
 use crate::answer::Answer;
@@ -105,6 +107,8 @@ pub fn all() -> Vectors {
     opening::add(&mut vectors);
     recovery::add(&mut vectors);
     equality::add(&mut vectors);
+    write_dealing::add(&mut vectors);
+    judge_dealing::add(&mut vectors);
     write_share::add(&mut vectors);
     judge_share::add(&mut vectors);
     vectors

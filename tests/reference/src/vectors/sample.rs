@@ -1,6 +1,6 @@
 //! Rounds and figures of which cases are made.
 
-use crate::group::{Group, G};
+use crate::group::{Group, G, H};
 use crate::numbers::Numbers;
 use crate::round::{Figures, Round};
 
@@ -59,6 +59,13 @@ pub fn places(length: usize) -> Vec<usize> {
         0..=4 => (0..length).collect(),
         _ => vec![0, length / 2, length - 1],
     }
+}
+
+/// Keys of a round's members.
+pub fn keys(round: &Round, numbers: &mut Numbers) -> Vec<u32> {
+    let secret_keys = list(numbers, round.n, round.group.q - 1);
+    let keys = secret_keys.iter().map(|x| round.group.power(H, 1 + x));
+    keys.collect()
 }
 
 /// Another element for an element. A figure that is none stays.

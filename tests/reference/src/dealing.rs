@@ -1,0 +1,163 @@
+//! Dealings: their writing and their judging.
+
+use crate::answer::{require, Answer};
+use crate::equality::{announced, response};
+use crate::group::G;
+use crate::message::{check_polynomial, dealing_challenge};
+use crate::modular::value_at;
+use crate::record::{self, has_form, Record, LINE, SIZE};
+use crate::round::{Figures, Round};
+use crate::sharing::degree_product;
+
+/// The operation: 1, 2; 8 dealer; 3 other than n keys, t coefficients, n nonces or 32n bytes; 6 a key; 7.
+pub fn write_dealing(
+    figures: Figures,
+    dealer: u32,
+    keys: &[u32],
+    coefficients: &[u32],
+    nonces: &[u32],
+    out: &mut [u8],
+) -> Answer<()> {
+    let round = figures.round()?;
+    let (n, t) = (round.n as usize, round.t as usize);
+    require(round.has_member(dealer), 8)?;
+    require(keys.len() == n && coefficients.len() == t, 3)?;
+    require(nonces.len() == n && out.len() == SIZE * n, 3)?;
+    require(round.group.all_keys(keys), 6)?;
+    require(round.group.all_exponents(coefficients), 7)?;
+    require(round.group.all_exponents(nonces), 7)?;
+    let value = |i| value_at(coefficients, i, round.group.q);
+    let exponents: Vec<u32> = (1..=round.n).map(value).collect();
+    deal(&round, dealer, keys, &exponents, nonces, out);
+    Ok(())
+}
+
+/// Writes the lines of each member's exponent, whether some polynomial takes these as its values or not.
+pub fn deal(
+    round: &Round,
+    dealer: u32,
+    keys: &[u32],
+    exponents: &[u32],
+    nonces: &[u32],
+    out: &mut [u8],
+) {
+    let powers = |exponents: &[u32]| -> Vec<[u32; 2]> {
+        let pairs = keys.iter().zip(exponents);
+        let powers = pairs.map(|(&y, &e)| [G, y].map(|base| round.group.power(base, e)));
+        powers.collect()
+    };
+    let dealt = powers(exponents);
+    let c = dealing_challenge(round, dealer, &dealt, &powers(nonces));
+    for (k, bytes) in out.chunks_exact_mut(SIZE).enumerate() {
+        let [v, encrypted] = dealt[k];
+        let r = response(&round.group, nonces[k], c, exponents[k]);
+        record::write([LINE, dealer, k as u32 + 1, v, encrypted, r, c, 0], bytes);
+    }
+}
+
+/// The operation: 1, 2; 8; 3 other than n keys or 32n bytes; 6 a key; 4; 6 v or Y; 7 r or c; 9; 10.
+pub fn judge_dealing(figures: Figures, dealer: u32, keys: &[u32], bytes: &[u8]) -> Answer<()> {
+    let round = figures.round()?;
+    let group = &round.group;
+    let n = round.n as usize;
+    require(round.has_member(dealer), 8)?;
+    require(keys.len() == n && bytes.len() == SIZE * n, 3)?;
+    require(group.all_keys(keys), 6)?;
+    let lines: Vec<Record> = bytes.chunks_exact(SIZE).map(record::read).collect();
+    for (member, line) in (1..).zip(&lines) {
+        require(has_form(line) && line[..3] == [LINE, dealer, member], 4)?;
+    }
+    for [_, _, _, v, encrypted, ..] in &lines {
+        require(group.all_elements(&[*v, *encrypted]), 6)?;
+    }
+    for [.., r, c, _] in &lines {
+        require(group.all_exponents(&[*r, *c]), 7)?;
+    }
+    let commitments: Vec<u32> = lines.iter().map(|line| line[3]).collect();
+    let dealt: Vec<[u32; 2]> = lines.iter().map(|line| [line[3], line[4]]).collect();
+    let coefficients = check_polynomial(&round, dealer, &dealt);
+    require(degree_product(&round, &commitments, &coefficients) == 1, 9)?;
+    let mut announcements = Vec::with_capacity(n);
+    for (&y, &[_, _, _, v, encrypted, r, c, _]) in keys.iter().zip(&lines) {
+        announcements.push([(G, v), (y, encrypted)].map(|(b, x)| announced(group, b, x, c, r)));
+    }
+    let challenge = dealing_challenge(&round, dealer, &dealt, &announcements);
+    require(lines.iter().all(|line| line[6] == challenge), 10)
+}
+
+#[cfg(test)]
+mod tests {
+    use super::*;
+    use crate::group::H;
+
+    const FIGURES: Figures = Figures {
+        number: 3,
+        n: 4,
+        t: 2,
+    };
+
+    fn keys() -> [u32; 4] {
+        let group = FIGURES.round().unwrap().group;
+        [5, 1, 2_147_483_542, 70_000].map(|x| group.power(H, x))
+    }
+
+    fn written() -> [u8; 128] {
+        let mut lines = [0; 128];
+        let nonces = [1, 0, 2_147_483_542, 5];
+        let answer = write_dealing(FIGURES, 3, &keys(), &[3, 5], &nonces, &mut lines);
+        assert_eq!(answer, Ok(()));
+        lines
+    }
+
+    #[test]
+    fn a_written_dealing_is_accepted() {
+        assert_eq!(judge_dealing(FIGURES, 3, &keys(), &written()), Ok(()));
+    }
+
+    /// A changed bit of the form is refused by 4, and of a figure by 6, 7, 9 or 10.
+    #[test]
+    fn each_changed_bit_is_refused() {
+        for bit in 0..8 * 128 {
+            let mut lines = written();
+            lines[bit / 8] ^= 1 << (bit % 8);
+            let refused = judge_dealing(FIGURES, 3, &keys(), &lines).unwrap_err();
+            match bit / 32 % 8 {
+                0..=2 | 7 => assert_eq!(refused, 4),
+                3 => assert!([6, 9].contains(&refused)),
+                4 => assert!([6, 10].contains(&refused)),
+                _ => assert!([7, 10].contains(&refused)),
+            }
+        }
+    }
+
+    #[test]
+    fn a_dealing_of_no_polynomial_is_refused() {
+        let round = FIGURES.round().unwrap();
+        let mut lines = [0; 128];
+        deal(
+            &round,
+            3,
+            &keys(),
+            &[8, 13, 18, 24],
+            &[1, 2, 3, 4],
+            &mut lines,
+        );
+        assert_eq!(judge_dealing(FIGURES, 3, &keys(), &lines), Err(9));
+        deal(
+            &round,
+            3,
+            &keys(),
+            &[8, 13, 18, 23],
+            &[1, 2, 3, 4],
+            &mut lines,
+        );
+        assert_eq!(judge_dealing(FIGURES, 3, &keys(), &lines), Ok(()));
+    }
+
+    #[test]
+    fn the_buffer_stays_as_it_was_where_a_number_is_refused() {
+        let mut lines = [7; 128];
+        let answer = write_dealing(FIGURES, 5, &keys(), &[3, 5], &[0; 4], &mut lines);
+        assert_eq!((answer, lines), (Err(8), [7; 128]));
+    }
+}

@@ -1,0 +1,242 @@
+//! Cases of judging a dealing. The arguments are group, n, t, the dealer, the number of keys and the lines' length in
+//! bytes; the payload has the keys and the lines.
+
+use super::faults::{singly_and_in_pairs, Fault};
+use super::sample::{fours, keys, list, other_element, other_exponent, proper, rounds};
+use super::{bytes, passed, Operation, Vectors};
+use crate::dealing::{deal, judge_dealing, write_dealing};
+use crate::group::G;
+use crate::modular::difference;
+use crate::numbers::Numbers;
+use crate::record::{self, SIZE};
+use crate::round::Figures;
+
+const JUDGE_DEALING: Operation = Operation {
+    number: 8,
+    name: "judge_dealing",
+};
+
+#[derive(Clone)]
+struct Case {
+    figures: Figures,
+    dealer: u32,
+    keys: Vec<u32>,
+    lines: Vec<u8>,
+}
+
+impl Case {
+    /// A dealing of the polynomial with any keys and nonces.
+    fn of(figures: Figures, dealer: u32, polynomial: &[u32], numbers: &mut Numbers) -> Case {
+        let round = proper(figures);
+        let mut case = Case {
+            figures,
+            dealer,
+            keys: keys(&round, numbers),
+            lines: vec![0; SIZE * round.n as usize],
+        };
+        case.deal(polynomial, numbers);
+        case
+    }
+
+    /// Writes other lines with the same keys.
+    fn deal(&mut self, polynomial: &[u32], numbers: &mut Numbers) {
+        let q = proper(self.figures).group.q;
+        let nonces = list(numbers, self.figures.n, q);
+        let Case {
+            figures,
+            dealer,
+            keys,
+            lines,
+        } = self;
+        let written = write_dealing(*figures, *dealer, keys, polynomial, &nonces, lines);
+        assert_eq!(written, Ok(()));
+    }
+
+    /// Changes a word of the line number k, from 0.
+    fn change(&mut self, k: usize, word: usize, change: impl Fn(u32) -> u32) {
+        let line = &mut self.lines[SIZE * k..][..SIZE];
+        let mut record = record::read(line);
+        record[word] = change(record[word]);
+        record::write(record, line);
+    }
+
+    fn add(&self, vectors: &mut Vectors) -> Option<u32> {
+        let Figures { number, n, t } = self.figures;
+        let lengths = [self.keys.len() as u32, self.lines.len() as u32];
+        let arguments = [number, n, t, self.dealer, lengths[0], lengths[1]];
+        let payload = [&bytes(&self.keys)[..], &self.lines].concat();
+        let answer = judge_dealing(self.figures, self.dealer, &self.keys, &self.lines);
+        vectors.add(&JUDGE_DEALING, &arguments, &payload, passed(answer))
+    }
+}
+
+pub fn add(vectors: &mut Vectors) {
+    let mut numbers = Numbers::new(8);
+    for figures in rounds() {
+        written(vectors, figures, &mut numbers);
+    }
+    for number in 1..=3 {
+        let three = Figures { number, n: 3, t: 2 };
+        for k in 0..3 {
+            damaged(vectors, three, k, &mut numbers);
+        }
+        recombined(vectors, Figures { number, n: 4, t: 2 }, &mut numbers);
+        uncarried(vectors, three, &mut numbers);
+    }
+    let largest = Figures {
+        number: 3,
+        n: 31,
+        t: 16,
+    };
+    damaged(vectors, largest, 30, &mut numbers);
+    refused(vectors, fours()[1], &mut numbers);
+}
+
+/// Dealings as they are written: of any polynomial, of 0, whose v and Y are all 1, and of one with the value 0 at the
+/// last member.
+fn written(vectors: &mut Vectors, figures: Figures, numbers: &mut Numbers) {
+    let q = proper(figures).group.q;
+    let dealer = 1 + numbers.below(figures.n);
+    let mut polynomial = list(numbers, figures.t, q);
+    assert_eq!(
+        Case::of(figures, dealer, &polynomial, numbers).add(vectors),
+        None
+    );
+    if figures.n > 10 {
+        return;
+    }
+    polynomial.fill(0);
+    assert_eq!(
+        Case::of(figures, dealer, &polynomial, numbers).add(vectors),
+        None
+    );
+    if figures.t > 1 {
+        polynomial[..2].copy_from_slice(&[difference(0, figures.n, q), 1]);
+        assert_eq!(
+            Case::of(figures, dealer, &polynomial, numbers).add(vectors),
+            None
+        );
+    }
+}
+
+/// Each word of the line number k changed: to the next number, to an element or exponent if it was one, to its negative
+/// and to the largest word.
+fn damaged(vectors: &mut Vectors, figures: Figures, k: usize, numbers: &mut Numbers) {
+    let group = proper(figures).group;
+    let polynomial = list(numbers, figures.t, group.q);
+    let right = Case::of(figures, 1, &polynomial, numbers);
+    for word in 0..8 {
+        let changes: [&dyn Fn(u32) -> u32; 4] = match word {
+            3 | 4 => [&|v| group.product(v, G), &|v| group.p - v, &|_| 1, &|_| {
+                u32::MAX
+            }],
+            5 | 6 => [&|e| (e + 1) % group.q, &|e| e + group.q, &|_| 0, &|_| {
+                u32::MAX
+            }],
+            _ => [&|w| w + 1, &|w| w ^ 3, &|_| 0, &|_| u32::MAX],
+        };
+        for change in changes {
+            let mut case = right.clone();
+            case.change(k, word, change);
+            case.add(vectors);
+        }
+    }
+}
+
+/// Figures of two dealings with the same keys mixed; lines and keys in another order; a dealing under another dealer's
+/// number, with other keys, and in another round.
+fn recombined(vectors: &mut Vectors, figures: Figures, numbers: &mut Numbers) {
+    let q = proper(figures).group.q;
+    let right = Case::of(figures, 3, &list(numbers, figures.t, q), numbers);
+    let mut other = right.clone();
+    other.deal(&list(numbers, figures.t, q), numbers);
+    for k in 0..4 {
+        let mut case = right.clone();
+        let line = SIZE * k..SIZE * (k + 1);
+        case.lines[line.clone()].copy_from_slice(&other.lines[line]);
+        case.add(vectors);
+    }
+    for word in 3..7 {
+        let mut case = right.clone();
+        for k in 0..4 {
+            let theirs = record::read(&other.lines[SIZE * k..][..SIZE])[word];
+            case.change(k, word, |_| theirs);
+        }
+        case.add(vectors);
+    }
+    let mut case = right.clone();
+    case.lines.rotate_left(SIZE);
+    case.add(vectors);
+    let mut case = right.clone();
+    case.keys.rotate_left(1);
+    case.add(vectors);
+    let mut case = right.clone();
+    case.dealer = 2;
+    case.add(vectors);
+    for k in 0..4 {
+        case.change(k, 1, |_| 2);
+    }
+    case.add(vectors);
+    for t in 1..=4 {
+        let mut case = right.clone();
+        case.figures.t = t;
+        case.add(vectors);
+    }
+    for number in 1..=3 {
+        let mut case = right.clone();
+        case.figures.number = number;
+        case.add(vectors);
+    }
+}
+
+/// Exponents that are no polynomial's values, with a right challenge: refused by 9, or in group 1 sometimes accepted.
+fn uncarried(vectors: &mut Vectors, figures: Figures, numbers: &mut Numbers) {
+    let round = proper(figures);
+    let mut case = Case::of(figures, 2, &[0, 0], numbers);
+    for _ in 0..20 {
+        let exponents = list(numbers, round.n, round.group.q);
+        let nonces = list(numbers, round.n, round.group.q);
+        deal(&round, 2, &case.keys, &exponents, &nonces, &mut case.lines);
+        case.add(vectors);
+    }
+}
+
+fn refused(vectors: &mut Vectors, figures: Figures, numbers: &mut Numbers) {
+    let group = proper(figures).group;
+    let (p, q) = (group.p, group.q);
+    let right = Case::of(figures, 2, &[3, 5], numbers);
+    let element = |v| other_element(&group, v);
+    let exponent = |e| other_exponent(&group, e);
+    let faults: [Fault<Case>; 29] = [
+        (1, &|c| c.figures.number = 0),
+        (1, &|c| c.figures.number = 4),
+        (2, &|c| c.figures.n = 32),
+        (2, &|c| c.figures.t = 0),
+        (2, &|c| c.figures.t = 5),
+        (8, &|c| c.dealer = 0),
+        (8, &|c| c.dealer = 5),
+        (3, &|c| c.keys.truncate(3)),
+        (3, &|c| c.keys.push(4)),
+        (3, &|c| c.lines.truncate(96)),
+        (3, &|c| c.lines.truncate(127)),
+        (3, &|c| c.lines.push(0)),
+        (6, &|c| c.keys[0] = 1),
+        (6, &|c| c.keys[2] = p - 1),
+        (6, &|c| c.keys[2] = 0),
+        (4, &|c| c.change(0, 0, |_| 4)),
+        (4, &|c| c.change(1, 1, |_| 1)),
+        (4, &|c| c.change(2, 2, |_| 2)),
+        (4, &|c| c.change(0, 7, |_| 1)),
+        (6, &|c| c.change(0, 3, |_| p - 1)),
+        (6, &|c| c.change(2, 3, |_| 0)),
+        (6, &|c| c.change(1, 4, |_| p)),
+        (7, &|c| c.change(0, 5, |_| q)),
+        (7, &|c| c.change(2, 5, |_| u32::MAX)),
+        (7, &|c| c.change(1, 6, |_| q)),
+        (9, &|c| c.change(1, 3, element)),
+        (10, &|c| c.change(2, 4, element)),
+        (10, &|c| c.change(0, 5, exponent)),
+        (10, &|c| c.change(1, 6, exponent)),
+    ];
+    singly_and_in_pairs(&right, &faults, |case| case.add(vectors));
+}
