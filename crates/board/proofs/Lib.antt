@@ -11,3 +11,8 @@ pub mod Demand3
 pub mod Matches
 pub mod Steps
 pub mod Numbers
+pub mod Gathering
+pub mod ShareAnswers
+pub mod Secrets
+pub mod Seats
+pub mod Judgements

@@ -7,9 +7,11 @@ use lib.ListN.{replicate}
 use lib.Dec.{leb, eqb}
 use Rattle.words.specs.Choice.{pick}
 use Rattle.words.specs.Lists.{map, upFrom}
-use Rattle.words.specs.Checks.{Check, _unless_, Outcome, value, refused, refusal, outcome}
+use Rattle.words.specs.Checks.{Check, _unless_, Outcome, refused, refusal, outcome}
 use Rattle.field.specs.Residue.{mul}
+use Rattle.group.specs.Answer.{elementOutcomeOf}
 use Rattle.group.specs.declared.Element.{Element}
+use Rattle.group.specs.declared.ElementAnswer.the-variants as answer-variants
 use Rattle.sharing.specs.Round.{groupIn}
 use Rattle.sharing.specs.declared.Round.{Round}
 use Rattle.board.specs.Board.{boardChecks}
@@ -20,8 +22,6 @@ use Rattle.board.specs.declared.Verdict.{Verdict}
 use Rattle.board.specs.declared.Verdict.the-variants.{None, Refused, Accepted}
 use Rattle.board.specs.declared.Seat.{Seat}
 use Rattle.board.specs.declared.Judged.{Judged}
-use Rattle.board.specs.declared.Draw.{Draw}
-use Rattle.board.specs.declared.Draw.the-variants as draw-variants
 
 -- ---- over the verdicts
 -- 1 for an accepted dealing, stuck or not
@@ -62,8 +62,11 @@ secretsProduct p [] = 1
 secretsProduct p (v ∷ vs) = timesSecret p v (secretsProduct p vs)
 
 -- ---- the draw: 14 fewer than t accepted, then 13 a stuck dealing
+abbrev pub endChecks : ℕ → ℕ → Bool → List Check
+endChecks t accepted stuck = 14 unless leb t accepted ∷ 13 unless not stuck ∷ []
+
 abbrev pub drawChecks : ℕ → List Verdict → List Check
-drawChecks t vs = 14 unless leb t (countAccepted vs) ∷ 13 unless not (anyStuck vs) ∷ []
+drawChecks t vs = endChecks t (countAccepted vs) (anyStuck vs)
 
 unfoldable pub drawOf : ℕ → ℕ → List Verdict → Outcome Element
 drawOf p t vs = outcome (drawChecks t vs) (record { 0 = secretsProduct p vs })
@@ -75,11 +78,7 @@ drawOn J R b =
     (drawOf (groupIn R .p) (R .t) (verdictsOn J R b))
     (refused (refusal (boardChecks R b)))
 
--- ---- the board judge's answer, case by case
-abbrev pub drawOutcomeOf : Draw → Outcome Element
-drawOutcomeOf (draw-variants.Value v) = value v
-drawOutcomeOf (draw-variants.Refused k) = refused k
-
+-- ---- the board judge's answer
 -- the seats of 31 dealers, of whom the first n have a verdict
 abbrev pub seatOf : (ℕ → Verdict) → ℕ → ℕ → Seat
 seatOf w n d = record { verdict = pick (leb d n) (w d) None }
@@ -87,7 +86,15 @@ seatOf w n d = record { verdict = pick (leb d n) (w d) None }
 unfoldable pub seatsOf : (ℕ → Verdict) → ℕ → List Seat
 seatsOf w n = map (seatOf w n) (upFrom 1 31)
 
+-- no verdict
+abbrev pub noSeats : List Seat
+noSeats = replicate 31 (record { verdict = None })
+
+-- the answer where a check before the verdicts refuses by k
+unfoldable pub refusedBoard : ℕ → Judged
+refusedBoard k = record { seats = noSeats; accepted = 0; draw = answer-variants.Refused k }
+
 pub record JudgedAs (J : Judges) (R : Round) (b : List ℕ) (A : Judged) : Type 0 where
-  pub seats : A .seats ≡ pick (eqb (refusal (boardChecks R b)) 0) (seatsOf (verdictOn J R b) (R .n)) (replicate 31 (record { verdict = None }))
+  pub seats : A .seats ≡ pick (eqb (refusal (boardChecks R b)) 0) (seatsOf (verdictOn J R b) (R .n)) noSeats
   pub accepted : A .accepted ≡ pick (eqb (refusal (boardChecks R b)) 0) (countAccepted (verdictsOn J R b)) 0
-  pub draw : drawOutcomeOf (A .draw) ≡ drawOn J R b
+  pub draw : elementOutcomeOf (A .draw) ≡ drawOn J R b

@@ -2,6 +2,7 @@
 pub mod Search
 pub mod Board
 pub mod Verdict
+pub mod Lowest
 pub mod Draw
 pub mod Text
 pub mod Claims

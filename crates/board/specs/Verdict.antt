@@ -1,4 +1,5 @@
 -- The verdict on each dealer. The two judges are a parameter: nothing here depends on how they work.
+use mathlib.Core.Path.{_≡_}
 use mathlib.Core.Bool.{Bool, _&&_}
 use mathlib.Core.List.{List}
 use Prim.Native.Nat.{ℕ, _*_}
@@ -6,7 +7,7 @@ use lib.ListN.{length, take, drop}
 use lib.Dec.{ltb, eqb}
 use Rattle.words.specs.Choice.{pick}
 use Rattle.words.specs.Lists.{map, upFrom}
-use Rattle.words.specs.Checks.{Outcome, value, refused}
+use Rattle.words.specs.Checks.{Outcome, value, refused, Met}
 use Rattle.group.specs.Power.{pow}
 use Rattle.group.specs.declared.Element.{Element}
 use Rattle.sharing.specs.Round.{groupIn, members}
@@ -17,7 +18,7 @@ use Rattle.dealing.specs.Records.{recordAt}
 use Rattle.dealing.specs.Dealing.{vsIn, YIn, judgeDealingOutcome}
 use Rattle.dealing.specs.Share.{judgeShareOutcome}
 use Rattle.board.specs.Search.{filter, recordsIn}
-use Rattle.board.specs.Board.{isKind, keyIn, keysIn, lineCount, linesOf, openingRecord}
+use Rattle.board.specs.Board.{isKind, boardChecks, keyIn, keysIn, lineCount, linesOf, openingRecord}
 use Rattle.board.specs.declared.Secret.{Secret}
 use Rattle.board.specs.declared.Secret.the-variants.{Opened, Recovered, Stuck}
 use Rattle.board.specs.declared.Verdict.{Verdict}
@@ -45,11 +46,21 @@ isAccepted J R b d = eqb (lineCount b d) (R .n) && isValue (dealingAnswer J R b 
 abbrev pub commitmentsOf : Round → List ℕ → ℕ → List ℕ
 commitmentsOf R b d = vsIn (R .n) (linesOf b d)
 
+-- verdicts are reached, and these are the n lines of the dealer d
+pub record Dealt (R : Round) (b : List ℕ) (d : ℕ) (lines : List ℕ) : Type 0 where
+  pub reached : Met (boardChecks R b)
+  pub part : lines ≡ linesOf b d
+  pub size : lineCount b d ≡ R .n
+
 -- ---- accepted shares
 -- what the judge of opened shares answers for the record i with the key of its member and the Y of that member's line
 unfoldable pub shareAnswer : Judges → Round → List ℕ → ℕ → ℕ → Outcome Element
 shareAnswer J R b d i =
     J .share R d (recordAt b i .w2) (keyIn b (recordAt b i .w2)) (YIn (linesOf b d) (recordAt b i .w2)) (take 32 (drop (32 * i) b))
+
+-- the same for a record of any kind and dealer: 4 where it is no share of the dealer d
+unfoldable pub shareOutcome : Judges → Round → List ℕ → ℕ → ℕ → Outcome Element
+shareOutcome J R b d i = pick (isKind b 4 i) (pick (eqb (recordAt b i .w1) d) (shareAnswer J R b d i) (refused 4)) (refused 4)
 
 -- the record i is an accepted share of the dealer d
 unfoldable pub isShareBy : Judges → Round → List ℕ → ℕ → ℕ → Bool

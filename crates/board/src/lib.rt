@@ -1,8 +1,11 @@
 // The board: its shape, a dealer's lines, verdicts, the draw value and the text that reports them.
 mod form;
+mod judge;
 mod keys;
 mod lines;
 mod search;
+mod shares;
+mod verdicts;
 
 use group::Element;
 pub use lines::dealer_lines;
@@ -26,15 +29,16 @@ pub struct Seat {
     pub verdict: Verdict,
 }
 
-// The beacon's output, or the number of the refusal.
-pub enum Draw {
-    Value(Element),
-    Refused(u32),
+// The lowest members with accepted shares, and these shares: the first places of two arrays.
+pub struct Lowest {
+    pub members: [u32; 31],
+    pub shares: [u32; 31],
+    pub count: usize,
 }
 
 // Every dealer's verdict (dealer d at d - 1, those above n None), the count of accepted dealings, and the draw.
 pub struct Judged {
     pub seats: [Seat; 31],
     pub accepted: u32,
-    pub draw: Draw,
+    pub draw: ElementAnswer,
 }
