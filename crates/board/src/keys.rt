@@ -10,7 +10,7 @@ ghost use Rattle.board.specs.Board.{hasKey, keysIn, keyChecks, boardChec
 use crate::form::form_refusal;
 use crate::search::find_key;
 use crate::search::records;
-use dealing::all_keys;
+use posted::all_keys;
 use group::Group;
 use group::GroupAnswer;
 use sharing::Round;

@@ -2,7 +2,7 @@
 // and element, the two announcements, the challenge and the response.
 use crate::payload;
 use crate::print;
-use dealing::Equality;
+use equality::Equality;
 use group::Element;
 use group::Exponent;
 use words::Record;
@@ -19,6 +19,6 @@ pub fn run(case: Record, space: &[u8]) -> bool {
         c: Exponent(ws[6]),
         r: Exponent(ws[7]),
     };
-    print::check(b"equality ", dealing::equality_check(case.w1, proof));
+    print::check(b"equality ", equality::equality_check(case.w1, proof));
     true
 }

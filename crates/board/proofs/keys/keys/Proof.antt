@@ -10,8 +10,8 @@ use lib.ListN.{length, take}
 use Rattle.words.specs.Lists.{map, all}
 use Rattle.words.specs.Bytes.{wordAt}
 use Rattle.sharing.specs.Round.{members}
-use Rattle.dealing.proofs.Members.{members-exactly}
-use Rattle.dealing.proofs.Filled.{filled-next}
+use Rattle.posted.proofs.Members.{members-exactly}
+use Rattle.posted.proofs.Filled.{filled-next}
 use Rattle.board.specs.Search.{recordsIn}
 use Rattle.board.specs.Board.{keyRecord, hasKey, keyIn}
 use Rattle.board.proofs.Matches.{word-in}

@@ -11,7 +11,7 @@ use Rattle.words.specs.Lists.{all}
 use Rattle.group.specs.declared.Group.{Group}
 use Rattle.sharing.specs.Round.{groupIn}
 use Rattle.sharing.specs.declared.Round.{Round}
-use Rattle.dealing.specs.Records.{isKey}
+use Rattle.posted.specs.Records.{isKey}
 use Rattle.board.specs.Board.{keysIn}
 use Rattle.board.proofs.keys.keys_refusal.Statement.{statement}
 use Rattle.board.proofs.keys.keys_refusal.Tie as tie
