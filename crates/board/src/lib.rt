@@ -4,8 +4,8 @@ mod keys;
 mod lines;
 mod search;
 
+pub use keys::board_keys;
 pub use keys::board_refusal;
-pub use keys::keys;
 pub use lines::dealer_lines;
 pub use lines::lines_check;
 pub use lines::lines_of;

@@ -147,7 +147,7 @@ module _ (J : Judges) (R : Round) (b : List ℕ) (d : ℕ) where
         let m = gathered-end (isShareBy J R b d) memberIn (R .t) n (A .members) (A .count) i h (F .members) in
         let v = gathered-end (isShareBy J R b d) shareIn (R .t) n (A .shares) (A .count) i h (F .shares) in
         let to : (g : ℕ → ℕ) → map g (take (R .t) (filter (isShareBy J R b d) (upFrom 0 n)))
-            ≡ map g (take (R .t) (filter (isShareBy J R b d) (upFrom 0 (recordsIn b)))) =
+        ≡ map g (take (R .t) (filter (isShareBy J R b d) (upFrom 0 (recordsIn b)))) =
         λ g. ap (λ (x : ℕ). map g (take (R .t) (filter (isShareBy J R b d) (upFrom 0 x)))) s in
         record {
           most = omega (arith, F .top);

@@ -9,12 +9,19 @@ ghost use Rattle.sharing.specs.Round.{groupIn};
 ghost use Rattle.board.specs.Board.{boardChecks};
 ghost use Rattle.verdicts.specs.Verdict.{judges};
 ghost use Rattle.verdicts.specs.Draw.{countOne, isStuck, secretValue, timesSecret, endChecks, refusedBoard, JudgedAs};
-
-use board::{board_refusal, keys};
+use crate::Judged;
+use crate::Seat;
+use crate::Secret;
+use crate::Verdict;
 use crate::verdicts::verdict;
-use crate::{Judged, Seat, Secret, Verdict};
-use group::{Element, ElementAnswer, Group, GroupAnswer};
-use sharing::{Round, round_group};
+use board::board_keys;
+use board::board_refusal;
+use group::Element;
+use group::ElementAnswer;
+use group::Group;
+use group::GroupAnswer;
+use sharing::Round;
+use sharing::round_group;
 
 // 1 for an accepted dealing.
 fn count_one(v: Verdict) -> u32
@@ -86,7 +93,7 @@ fn tally(gr: Group, rd: Round, b: &[u8]) -> Judged
     ensures { λ r. ⌜ JudgedAs judges rd (now (b .entry)) r ⌝ }
 {
     let n = rd.n as usize;
-    let ys = keys(b, rd.n);
+    let ys = board_keys(b, rd.n);
     let none = Seat {
         verdict: Verdict::None,
     };

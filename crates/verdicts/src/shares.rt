@@ -5,12 +5,13 @@ ghost use Rattle.group.specs.Answer.{elementOutcomeOf};
 ghost use Rattle.board.specs.Search.{recordsIn};
 ghost use Rattle.verdicts.specs.Verdict.{judges, Dealt, shareOutcome};
 ghost use Rattle.verdicts.specs.Lowest.{withShare, LowestBy};
-
 use crate::Lowest;
-use board::{find_key, records};
+use board::find_key;
+use board::records;
+use group::Element;
+use group::ElementAnswer;
 use opened::judge_share;
 use posted::record_at;
-use group::{Element, ElementAnswer};
 use sharing::Round;
 
 // What the judge of opened shares answers for the record i with the key of its member and the Y of that member's line.

@@ -4,15 +4,21 @@ ghost use Rattle.sharing.specs.Round.{groupIn};
 ghost use Rattle.words.specs.Checks.{Met};
 ghost use Rattle.board.specs.Board.{keysIn, boardChecks};
 ghost use Rattle.verdicts.specs.Verdict.{judges, Dealt, fromShares, isOpened, secretBy, verdictOn};
-
-use board::lines_of;
-use board::{find_opening, records};
+use crate::Secret;
+use crate::Verdict;
 use crate::shares::lowest_shares;
-use crate::{Secret, Verdict};
+use board::find_opening;
+use board::lines_of;
+use board::records;
 use dealing::judge_dealing;
-use posted::{column, record_at};
-use group::{Exponent, Group};
-use sharing::{CheckAnswer, Round, opening, recovered_from};
+use group::Exponent;
+use group::Group;
+use posted::column;
+use posted::record_at;
+use sharing::CheckAnswer;
+use sharing::Round;
+use sharing::opening;
+use sharing::recovered_from;
 
 // The secret from the t lowest members with accepted shares, stuck where there are fewer.
 // Internal: callers ensure that gr is the round's group and that these are the n lines of d on a board whose verdicts are reached.

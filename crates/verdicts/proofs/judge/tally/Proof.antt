@@ -29,8 +29,8 @@ abbrev μ-loop : tie.MeasureT-loop
 cast-n : tie.Need-cast-n Inv-loop μ-loop
 cast-n c = search needs
 
-keys-requires : tie.Need-keys-requires Inv-loop μ-loop
-keys-requires c κs =
+board-keys-requires : tie.Need-board-keys-requires Inv-loop μ-loop
+board-keys-requires c κs =
     let w = c .before .before in
     let r = reached (w .args .rd) (w .args .b .now) (w .pre .1) in
     (ready (w .args .rd) (r .formed .round) .at-most, r .keys)
@@ -42,7 +42,7 @@ loop-holds c =
     let r = reached (a .rd) (a .b .now) (w .pre .1) in
     let y = ready (a .rd) (r .formed .round) in
     let p : 0 < a .gr .p = subst (λ (G : Group). 0 < G .p) (w .pre .0) (omega (arith, y .proper .prime-p .above-one)) in
-    (w .pre .0, w .pre .1, c .keys .ensures, y .at-most, p, tallied-start (verdictOn judges (a .rd) (a .b .now)) (a .gr .p) (a .rd .n))
+    (w .pre .0, w .pre .1, c .board-keys .ensures, y .at-most, p, tallied-start (verdictOn judges (a .rd) (a .b .now)) (a .gr .p) (a .rd .n))
 
 sub-verdict : tie.Need-sub-verdict Inv-loop μ-loop
 sub-verdict c = search needs
@@ -58,7 +58,7 @@ verdict-requires c κs =
     let l = c .before .before .before in
     let k = l .before in
     let i = l .loop .inv in
-    (i .0, i .1, ap (λ (x : ℕ). take x (k .keys .result)) (sub-zero (k .before .before .before .args .rd .n)) ∙ i .2)
+    (i .0, i .1, ap (λ (x : ℕ). take x (k .board-keys .result)) (sub-zero (k .before .before .before .args .rd .n)) ∙ i .2)
 
 count-one-requires : tie.Need-count-one-requires Inv-loop μ-loop
 count-one-requires c κs = search needs
@@ -101,8 +101,8 @@ loop-again c =
       i .3,
       i .4,
       tallied-next _ _ _ (l .d) (l .seats) (l .accepted) (l .stuck) (l .product .0) (i .5) (t .loop-test .taken) (i .3)
-      (v .verdict .result) (c .before .before .count-one .result) (c .before .any-stuck .result) (c .times-secret .result .0)
-      (v .verdict .ensures) (c .before .before .count-one .ensures) (c .before .any-stuck .ensures) (c .times-secret .ensures),
+          (v .verdict .result) (c .before .before .count-one .result) (c .before .any-stuck .result) (c .times-secret .result .0)
+          (v .verdict .ensures) (c .before .before .count-one .ensures) (c .before .any-stuck .ensures) (c .times-secret .ensures),
     )
 
 draw-answer-requires : tie.Need-draw-answer-requires Inv-loop μ-loop
@@ -122,7 +122,7 @@ tally-spec =
     Inv-loop
     μ-loop
     cast-n
-    keys-requires
+    board-keys-requires
     loop-holds
     sub-verdict
     part-verdict-start

@@ -15,8 +15,8 @@ use Rattle.posted.proofs.Filled.{filled-next}
 use Rattle.board.specs.Search.{recordsIn}
 use Rattle.board.specs.Board.{keyRecord, hasKey, keyIn}
 use Rattle.board.proofs.Matches.{word-in}
-use Rattle.board.proofs.keys.keys.Statement.{statement}
-use Rattle.board.proofs.keys.keys.Tie as tie
+use Rattle.board.proofs.keys.board_keys.Statement.{statement}
+use Rattle.board.proofs.keys.board_keys.Tie as tie
 
 key-inside : (b : List ℕ) (n i : ℕ) → all (hasKey b) (members n) ≡ true → i < n → keyRecord b (i + 1) < recordsIn b
 key-inside b n i e h = ltb-true _ _ (members-exactly (hasKey b) n .0 e (i + 1) (omega arith) (omega arith))
@@ -87,8 +87,8 @@ returns c =
     let e : l .i ≡ c .before .before .before .args .n = omega arith in
     rw (← e) (l .inv .2)
 
-pub keys-spec : {M : Type 1} → statement M
-keys-spec =
+pub board-keys-spec : {M : Type 1} → statement M
+board-keys-spec =
     tie.close
     (tie.spec
     Inv-loop
