@@ -19,8 +19,8 @@ use Rattle.verdicts.proofs.verdicts.is_opened.Tie as tie
 told : (c : tie.After-opening)
     → isValue (checkOutcomeOf (c .opening .result))
     ≡ isOpened (c .before .before .before .before .before .before .before .before .before .before .before .args .rd)
-      (c .before .before .before .before .before .before .before .before .before .before .before .args .b .now)
-      (c .before .before .before .before .before .before .before .before .before .before .before .args .d)
+    (c .before .before .before .before .before .before .before .before .before .before .before .args .b .now)
+    (c .before .before .before .before .before .before .before .before .before .before .before .args .d)
 told c =
     let k = c .before .before .before .before in
     let f = k .before .before .before .before in
