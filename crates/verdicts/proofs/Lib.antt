@@ -7,5 +7,6 @@ pub mod Demand3
 pub mod Gathering
 pub mod ShareAnswers
 pub mod Secrets
+pub mod VerdictAnswers
 pub mod Seats
 pub mod Judgements
