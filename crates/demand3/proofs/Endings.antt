@@ -21,14 +21,14 @@ use Rattle.sharing.specs.Round.{groupIn, members}
 use Rattle.sharing.specs.declared.Round.{Round}
 use Rattle.board.specs.Search.{filter, recordsIn}
 use Rattle.board.specs.Board.{recordChecks, keyChecks, boardChecks}
 use Rattle.verdicts.specs.Verdict.{Judges, isAccepted, secretBy, verdictOn, verdictsOn}
 use Rattle.verdicts.specs.Draw.{countOne, countAccepted, isStuck, anyStuck, secretValue, timesSecret, secretsProduct, drawChecks, drawOf, drawOn}
-use Rattle.verdicts.specs.Claims.{acceptedDealers, productOf, SomeStuck, RefusedBefore, EndRules}
+use Rattle.demand3.specs.Claims.{acceptedDealers, productOf, SomeStuck, RefusedBefore, EndRules}
 use Rattle.verdicts.specs.declared.Secret.the-variants.{Opened, Recovered, Stuck}
 use Rattle.verdicts.specs.declared.Verdict.{Verdict}
 use Rattle.verdicts.specs.declared.Verdict.the-variants.{None, Refused, Accepted}
 use Rattle.board.proofs.Order.{Formed, reached}
-use Rattle.verdicts.proofs.VerdictCases.{Case, nothing, partial, rejected, passed, case-of}
+use Rattle.demand3.proofs.VerdictCases.{Case, nothing, partial, rejected, passed, case-of}
 
 -- ---- refused before the verdicts
 records-numbered : (n : ℕ) (b : List ℕ) (i m : ℕ) → Numbered (recordChecks n b i m)
