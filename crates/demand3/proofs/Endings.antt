@@ -12,7 +12,7 @@ use lib.ListN.{length}
 use lib.Dec.{eqb}
 use Rattle.words.specs.Choice.{pick}
 use Rattle.words.specs.Lists.{map, upFrom}
-use Rattle.words.specs.Checks.{value, refused, refusal, outcome, Met}
+use Rattle.words.specs.Checks.{Check, value, refused, refusal, outcome, Met}
 use Rattle.words.proofs.Tests.{false-true, pick-true, pick-false}
 use Rattle.words.proofs.Checks.{value-met, value-exactly, refused-exactly, none-exactly, first-exactly, first-numbered}
 use Rattle.group.specs.declared.Element.{Element}
