@@ -1,0 +1,215 @@
+//! The board: the form and order of its records, the keys, a dealer's lines, the verdicts and the draw value.
+
+use crate::answer::{require, Answer};
+use crate::dealing::judge_dealing;
+use crate::group::H;
+use crate::record::{self, has_form, KEY, LINE, OPENING, SHARE, SIZE};
+use crate::round::{Figures, Round};
+use crate::share::judge_share;
+use crate::sharing::{at_zero, opening};
+
+/// The most records that a board may have.
+const MOST: usize = 2048;
+
+/// How the secret of an accepted dealing came, with the secret h^s.
+#[derive(Clone, Copy, Debug, PartialEq)]
+pub enum Secret {
+    Opened(u32),
+    Recovered(u32),
+    Stuck,
+}
+
+#[derive(Clone, Copy, Debug, PartialEq)]
+pub enum Verdict {
+    None,
+    Refused(u32),
+    Accepted(Secret),
+}
+
+/// What is judged of a board: the verdict on each dealer from 1 to n, the count of accepted dealings, and the draw value.
+pub struct Judged {
+    pub verdicts: Vec<Verdict>,
+    pub accepted: usize,
+    pub draw: Answer<u32>,
+}
+
+/// A board that nothing refuses before verdicts.
+struct Board<'a> {
+    figures: Figures,
+    round: Round,
+    keys: Vec<u32>,
+    bytes: &'a [u8],
+}
+
+/// A record's kind, dealer and member, by which records ascend.
+fn place(bytes: &[u8]) -> [u32; 3] {
+    let [kind, dealer, member, ..] = record::read(bytes);
+    [kind, dealer, member]
+}
+
+/// Whether the record is one of the table, for n members.
+fn is_of_table(n: u32, bytes: &[u8]) -> bool {
+    let is_member = |number| (1..=n).contains(&number);
+    let [kind, dealer, member] = place(bytes);
+    let in_range = match kind {
+        KEY => dealer == 0 && is_member(member),
+        OPENING => is_member(dealer) && member == 0,
+        _ => is_member(dealer) && is_member(member),
+    };
+    in_range && has_form(&record::read(bytes))
+}
+
+/// 3 not whole records or too many; record by record 4 none of the table and then 5 not above the one before.
+fn check_form(n: u32, bytes: &[u8]) -> Answer<()> {
+    require(bytes.len().is_multiple_of(SIZE), 3)?;
+    require(bytes.len() / SIZE <= MOST, 3)?;
+    // Every record of the table is above this.
+    let mut before = [0; 3];
+    for record in bytes.chunks_exact(SIZE) {
+        require(is_of_table(n, record), 4)?;
+        require(place(record) > before, 5)?;
+        before = place(record);
+    }
+    Ok(())
+}
+
+/// The part of a board of proper form that holds a dealer's lines.
+fn lines_of(bytes: &[u8], dealer: u32) -> &[u8] {
+    let all = bytes.len() / SIZE;
+    let is_line = |k: &usize| place(&bytes[SIZE * k..])[..2] == [LINE, dealer];
+    let start = (0..all).find(is_line).unwrap_or(all);
+    let end = (start..all).find(|k| !is_line(k)).unwrap_or(all);
+    &bytes[SIZE * start..SIZE * end]
+}
+
+/// The operation that gives the number for a dealer's lines: 1, 2; 8; then 3, 4 and 5 as for the board.
+pub fn lines_check(figures: Figures, dealer: u32, bytes: &[u8]) -> Answer<()> {
+    let round = figures.round()?;
+    require(round.has_member(dealer), 8)?;
+    check_form(round.n, bytes)
+}
+
+/// The operation that gives a dealer's lines, none where the check refuses.
+pub fn dealer_lines(figures: Figures, dealer: u32, bytes: &[u8]) -> &[u8] {
+    match lines_check(figures, dealer, bytes) {
+        Ok(()) => lines_of(bytes, dealer),
+        Err(_) => &[],
+    }
+}
+
+/// The members' keys of a board of proper form: 12 a key missing; 6 a bad key.
+fn keys(round: &Round, bytes: &[u8]) -> Answer<Vec<u32>> {
+    let records = bytes.chunks_exact(SIZE).map(record::read);
+    let keys: Vec<u32> = records.filter(|r| r[0] == KEY).map(|r| r[3]).collect();
+    // Their members ascend strictly from 1 to n, so that n of them are one for each.
+    require(keys.len() == round.n as usize, 12)?;
+    require(round.group.all_keys(&keys), 6)?;
+    Ok(keys)
+}
+
+/// The operation: 1, 2; 3; record by record 4 and 5; 12; 6. Where these refuse nothing it answers what it judges.
+pub fn judge_board(figures: Figures, bytes: &[u8]) -> Answer<Judged> {
+    let round = figures.round()?;
+    check_form(round.n, bytes)?;
+    let board = Board {
+        figures,
+        keys: keys(&round, bytes)?,
+        round,
+        bytes,
+    };
+    let dealers = 1..=board.round.n;
+    let verdicts: Vec<Verdict> = dealers.map(|dealer| board.verdict(dealer)).collect();
+    let is_accepted = |verdict: &&Verdict| matches!(verdict, Verdict::Accepted(_));
+    let accepted = verdicts.iter().filter(is_accepted).count();
+    Ok(Judged {
+        draw: board.draw(&verdicts, accepted),
+        verdicts,
+        accepted,
+    })
+}
+
+impl Board<'_> {
+    /// None without lines; 12 with some but not n; else what the judge of dealings answers.
+    fn verdict(&self, dealer: u32) -> Verdict {
+        let lines = lines_of(self.bytes, dealer);
+        if lines.is_empty() {
+            return Verdict::None;
+        }
+        if lines.len() / SIZE != self.round.n as usize {
+            return Verdict::Refused(12);
+        }
+        match judge_dealing(self.figures, dealer, &self.keys, lines) {
+            Err(number) => Verdict::Refused(number),
+            Ok(()) => Verdict::Accepted(self.secret(dealer, lines)),
+        }
+    }
+
+    /// A right opening counts first, otherwise the t lowest members with accepted shares; fewer are stuck.
+    fn secret(&self, dealer: u32, lines: &[u8]) -> Secret {
+        if let Some(s) = self.right_opening(dealer, lines) {
+            return Secret::Opened(self.round.group.power(H, s));
+        }
+        let (members, shares) = self.lowest_shares(dealer, lines);
+        if members.len() < self.round.t as usize {
+            return Secret::Stuck;
+        }
+        Secret::Recovered(at_zero(&self.round.group, &members, &shares))
+    }
+
+    fn right_opening(&self, dealer: u32, lines: &[u8]) -> Option<u32> {
+        let mut records = self.bytes.chunks_exact(SIZE);
+        let posted = records.find(|record| place(record) == [OPENING, dealer, 0])?;
+        let [_, _, _, s, ..] = record::read(posted);
+        let commitments: Vec<u32> = lines
+            .chunks_exact(SIZE)
+            .map(|line| record::read(line)[3])
+            .collect();
+        opening(self.figures, &commitments, s).ok().map(|()| s)
+    }
+
+    /// The first t accepted shares, which are those of the lowest members: these and the shares.
+    fn lowest_shares(&self, dealer: u32, lines: &[u8]) -> (Vec<u32>, Vec<u32>) {
+        let t = self.round.t as usize;
+        let (mut members, mut shares) = (Vec::with_capacity(t), Vec::with_capacity(t));
+        for posted in self.bytes.chunks_exact(SIZE) {
+            if members.len() == t {
+                break;
+            }
+            let [kind, by, member] = place(posted);
+            if [kind, by] != [SHARE, dealer] {
+                continue;
+            }
+            let k = member as usize - 1;
+            let encrypted = record::read(&lines[SIZE * k..])[4];
+            let answer = judge_share(
+                self.figures,
+                dealer,
+                member,
+                self.keys[k],
+                encrypted,
+                posted,
+            );
+            if let Ok(share) = answer {
+                members.push(member);
+                shares.push(share);
+            }
+        }
+        (members, shares)
+    }
+
+    /// The product of the secrets of all accepted dealings: 14 fewer than t accepted; 13 a stuck one.
+    fn draw(&self, verdicts: &[Verdict], accepted: usize) -> Answer<u32> {
+        require(accepted >= self.round.t as usize, 14)?;
+        let mut draw = 1;
+        for verdict in verdicts {
+            match *verdict {
+                Verdict::None | Verdict::Refused(_) => {}
+                Verdict::Accepted(Secret::Stuck) => return Err(13),
+                Verdict::Accepted(Secret::Opened(secret) | Secret::Recovered(secret)) => {
+                    draw = self.round.group.product(draw, secret);
+                }
+            }
+        }
+        Ok(draw)
+    }
+}
