@@ -213,3 +213,138 @@ impl Board<'_> {
         Ok(draw)
     }
 }
+
+#[cfg(test)]
+mod tests {
+    use super::*;
+    use crate::modular::value_at;
+    use crate::posting::{opening_record, Members};
+    use crate::record::Record;
+
+    const FIGURES: Figures = Figures {
+        number: 3,
+        n: 4,
+        t: 2,
+    };
+
+    /// The secrets of the dealings of `everything`.
+    const SECRETS: [u32; 4] = [7, 100, 0, 2_147_483_542];
+
+    /// Keys, and each dealer's lines, opening and shares.
+    fn everything() -> Vec<Record> {
+        let members = Members::new(FIGURES, &[5, 1, 2_147_483_542, 70_000]);
+        let mut records = members.key_records();
+        for (dealer, s) in (1..).zip(SECRETS) {
+            let values = [1, 2, 3, 4].map(|i| value_at(&[s, 12_345], i, members.round.group.q));
+            let lines = members.lines(dealer, &values, &[4, 3, 2, 1]);
+            records.extend(lines.iter().map(|line| members.share(line, 9)));
+            records.extend(lines);
+            records.push(opening_record(dealer, s));
+        }
+        records.sort();
+        records
+    }
+
+    fn judged(records: &[Record]) -> Judged {
+        judge_board(FIGURES, &record::bytes(records.iter().copied())).expect("a proper board")
+    }
+
+    fn refusal(records: &[Record]) -> Option<u32> {
+        judge_board(FIGURES, &record::bytes(records.iter().copied())).err()
+    }
+
+    fn without(is_removed: impl Fn(&Record) -> bool) -> Vec<Record> {
+        let mut records = everything();
+        records.retain(|record| !is_removed(record));
+        records
+    }
+
+    fn secret(dealer: usize) -> u32 {
+        let group = FIGURES.round().unwrap().group;
+        group.power(H, SECRETS[dealer - 1])
+    }
+
+    #[test]
+    fn openings_and_shares_give_one_draw_value() {
+        let group = FIGURES.round().unwrap().group;
+        let draw = (1..=4).fold(1, |draw, dealer| group.product(draw, secret(dealer)));
+        let opened = judged(&everything());
+        let recovered = judged(&without(|r| r[0] == OPENING));
+        for dealer in 1..=4 {
+            let (one, other) = (
+                Secret::Opened(secret(dealer)),
+                Secret::Recovered(secret(dealer)),
+            );
+            assert_eq!(opened.verdicts[dealer - 1], Verdict::Accepted(one));
+            assert_eq!(recovered.verdicts[dealer - 1], Verdict::Accepted(other));
+        }
+        assert_eq!((opened.accepted, opened.draw), (4, Ok(draw)));
+        assert_eq!((recovered.accepted, recovered.draw), (4, Ok(draw)));
+    }
+
+    #[test]
+    fn the_lowest_members_with_accepted_shares_serve() {
+        let mut records = without(|r| r[0] == OPENING);
+        for member in [1, 3] {
+            let is_it = |r: &&mut Record| r[..3] == [SHARE, 2, member];
+            let share = records.iter_mut().find(is_it).unwrap();
+            share[5] ^= 1;
+        }
+        let recovered = Verdict::Accepted(Secret::Recovered(secret(2)));
+        assert_eq!(judged(&records).verdicts[1], recovered);
+        records.retain(|r| r[..3] != [SHARE, 2, 4]);
+        let judged = judged(&records);
+        assert_eq!(judged.verdicts[1], Verdict::Accepted(Secret::Stuck));
+        assert_eq!((judged.accepted, judged.draw), (4, Err(13)));
+    }
+
+    #[test]
+    fn too_few_dealings_count_before_a_stuck_one() {
+        let records = without(|r| r[0] == LINE && r[1] < 4 || r[0] == OPENING || r[0] == SHARE);
+        let judged = judged(&records);
+        assert_eq!(judged.verdicts[..3], [Verdict::None; 3]);
+        assert_eq!(judged.verdicts[3], Verdict::Accepted(Secret::Stuck));
+        assert_eq!((judged.accepted, judged.draw), (1, Err(14)));
+    }
+
+    #[test]
+    fn lines_in_part_are_refused() {
+        let judged = judged(&without(|r| r[..3] == [LINE, 3, 2]));
+        assert_eq!(judged.verdicts[2], Verdict::Refused(12));
+        assert_eq!(judged.accepted, 3);
+    }
+
+    #[test]
+    fn form_and_keys() {
+        let mut records = everything();
+        records.swap(5, 6);
+        assert_eq!(refusal(&records), Some(5));
+        records[8][7] = 1;
+        assert_eq!(refusal(&records), Some(5));
+        records[4][7] = 1;
+        assert_eq!(refusal(&records), Some(4));
+        assert_eq!(refusal(&without(|r| r[0] == KEY && r[2] == 2)), Some(12));
+        let mut records = everything();
+        records[3][3] = 1;
+        assert_eq!(refusal(&records), Some(6));
+        records.resize(2048, [0; 8]);
+        assert_eq!(refusal(&records), Some(4));
+        records.push([0; 8]);
+        assert_eq!(refusal(&records), Some(3));
+        assert_eq!(judge_board(FIGURES, &[0; 31]).err(), Some(3));
+        assert_eq!(refusal(&[]), Some(12));
+    }
+
+    #[test]
+    fn a_dealers_lines_as_they_lie() {
+        let board = record::bytes(everything());
+        let lines = dealer_lines(FIGURES, 3, &board);
+        assert_eq!(lines.as_ptr(), board[SIZE * 12..].as_ptr());
+        assert_eq!(lines.len(), SIZE * 4);
+        let left = record::bytes(without(|r| r[0] == LINE && r[1] == 3));
+        assert!(dealer_lines(FIGURES, 3, &left).is_empty());
+        assert!(dealer_lines(FIGURES, 3, &board[1..]).is_empty());
+        assert_eq!(lines_check(FIGURES, 5, &board[1..]), Err(8));
+        assert_eq!(lines_check(FIGURES, 3, &board[1..]), Err(3));
+    }
+}
