@@ -1,6 +1,6 @@
-//! Cases on boards: a dealer's lines, and the text of `draw`. The arguments of the text are the set's length in bytes
-//! and, as the fifth, the base board's; the payload has the set and the board as changes of the base. The text's length
-//! is in the case's line, and the text follows it.
+//! Cases on boards: a dealer's lines, and the text of `draw`. The fifth argument is the base board's length in bytes,
+//! and the sixth the set's, which is 0 for a dealer's lines; the payload has the set, and the board as changes of the
+//! base. The text's length is in the case's line, and the text follows it.
 
 mod damaged;
 mod forging;
@@ -41,7 +41,8 @@ impl Posted {
 /// Adds a case of the bytes of both files. Returns the text.
 fn add_files(vectors: &mut Vectors, set: &[u8], board: &[u8]) -> String {
     let text = draw::text(set, board);
-    let arguments = [set.len() as u32, 0, 0, 0, vectors.base.len() as u32];
+    let lengths = [vectors.base.len() as u32, set.len() as u32];
+    let arguments = [0, 0, 0, 0, lengths[0], lengths[1]];
     let payload = [set, &splices(&vectors.base, board)].concat();
     let answer = format!("{}\n{}", text.len(), text.trim_end());
     vectors.line(&TEXT, &arguments, &payload, &answer);

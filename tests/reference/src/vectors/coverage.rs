@@ -39,7 +39,7 @@ fn read_cases() -> Vec<Case> {
             base = payload.to_vec();
         }
         if operation == 13 {
-            let (set, splices) = payload.split_at(a as usize);
+            let (set, splices) = payload.split_at(f as usize);
             let (text, rest) = behind.split_at(answer.parse().unwrap());
             behind = rest;
             files = Some((set.to_vec(), applied(&base, splices), text.to_string()));
