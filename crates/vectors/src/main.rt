@@ -2,11 +2,14 @@
 //
 // A case has a header of eight words: the operation's number, six arguments and the payload's length in bytes.
 // The payload follows.
+mod boards;
 mod degree;
 mod digest;
+mod draw_text;
 mod equality_check;
 mod judge_dealing;
 mod judge_share;
+mod lines;
 mod opening;
 mod payload;
 mod power;
@@ -27,7 +30,7 @@ fn read_payload(space: &mut [u8], count: usize) -> bool {
 }
 
 // Calls the operation of a case whose payload is the first `count` bytes of `space`. False where it cannot.
-fn run(case: Record, space: &mut [u8], count: usize) -> bool {
+fn run(case: Record, space: &mut [u8], count: usize, base: &mut [u8; 65568]) -> bool {
     let operation = case.w0;
     match operation {
         1 => digest::run(case, space, count),
@@ -40,12 +43,14 @@ fn run(case: Record, space: &mut [u8], count: usize) -> bool {
         8 => judge_dealing::run(case, space),
         9 => write_share::run(case, space),
         10 => judge_share::run(case, space),
+        11..=13 => boards::run(case, space, count, base),
+        14 => boards::load(space, count, base),
         _ => false,
     }
 }
 
 // Replays one case. False at the end of the input, and after a case that cannot be read or called.
-fn replay() -> bool {
+fn replay(base: &mut [u8; 65568]) -> bool {
     let mut header = [0u8; 32];
     let got = io::read_full(STDIN_FILENO, &mut header);
     if got == 0 {
@@ -55,7 +60,7 @@ fn replay() -> bool {
     let count = case.w7 as usize;
     // The longest payload is a board with one record too many.
     let mut space = [0u8; 65568];
-    if got == 32 && read_payload(&mut space, count) && run(case, &mut space, count) {
+    if got == 32 && read_payload(&mut space, count) && run(case, &mut space, count, base) {
         return true;
     }
     print::text(b"no case\n");
@@ -64,8 +69,9 @@ fn replay() -> bool {
 
 // The turns are counted, since nothing says that the input ends.
 fn main() {
+    let mut base = [0u8; 65568];
     let mut turns = u32::MAX;
-    while turns > 0 && replay() {
+    while turns > 0 && replay(&mut base) {
         turns -= 1;
     }
 }

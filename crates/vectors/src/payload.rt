@@ -11,6 +11,17 @@ pub fn round(case: Record) -> Round {
     }
 }
 
+// The word that begins at byte k. It is 0 where the space ends before.
+pub fn word_from(space: &[u8], k: usize) -> u32 {
+    if space.len() < 4 {
+        return 0;
+    }
+    if k > space.len() - 4 {
+        return 0;
+    }
+    words::word_at(space, k)
+}
+
 // The word number k of a payload, from 0. It is 0 where the space ends before.
 pub fn word(space: &[u8], k: usize) -> u32 {
     let words = space.len() / 4;

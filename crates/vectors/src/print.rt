@@ -8,10 +8,19 @@ pub fn text(t: &[u8]) {
     io::write_all(STDOUT_FILENO, t);
 }
 
-fn number(name: &[u8], n: u32) {
+// A number, and no end of the line.
+pub fn count(name: &[u8], n: usize) {
     text(name);
     io::print_decimal(STDOUT_FILENO, n as u64);
+}
+
+pub fn length(name: &[u8], n: usize) {
+    count(name, n);
     text(b"\n");
+}
+
+fn number(name: &[u8], n: u32) {
+    length(name, n as usize);
 }
 
 pub fn refused(name: &[u8], k: u32) {
@@ -24,10 +33,7 @@ fn passed(name: &[u8], answer: CheckAnswer) {
     text(name);
     match answer {
         CheckAnswer::Passed => text(b"passed"),
-        CheckAnswer::Refused(k) => {
-            text(b"refused ");
-            io::print_decimal(STDOUT_FILENO, k as u64);
-        }
+        CheckAnswer::Refused(k) => count(b"refused ", k as usize),
     }
 }
 

@@ -2,12 +2,16 @@
 //! with the product, and writes the vectors that the product is run on.
 
 mod answer;
+mod board;
 mod dealing;
+mod draw;
 mod equality;
+mod forge;
 mod group;
 mod message;
 mod modular;
 mod numbers;
+mod posting;
 mod primes;
 mod record;
 mod round;
@@ -23,7 +27,8 @@ use std::{env, fs};
 
 type Done = Result<(), Box<dyn Error>>;
 
-const USAGE: &str = "usage: reference vectors DIR | largest | digest FILE";
+const USAGE: &str =
+    "usage: reference vectors DIR | forge DIR | example DIR | draw DIR | largest | digest FILE";
 
 /// The primes p and q of group 3: the largest below 2^32.
 fn largest() -> (u64, u64) {
@@ -41,10 +46,21 @@ fn write_vectors(folder: &Path) -> Done {
     Ok(())
 }
 
+/// Writes files of these names and bytes to a folder.
+fn write_files(folder: &str, files: &[(&str, Vec<u8>)]) -> Done {
+    for (name, bytes) in files {
+        fs::write(Path::new(folder).join(name), bytes)?;
+    }
+    Ok(())
+}
+
 fn run(words: &[String]) -> Done {
     let words: Vec<&str> = words.iter().map(String::as_str).collect();
     match words[..] {
         ["vectors", folder] => write_vectors(Path::new(folder))?,
+        ["forge", folder] => write_files(folder, &forge::files())?,
+        ["example", folder] => write_files(folder, &draw::example())?,
+        ["draw", folder] => print!("{}", draw::text_of(Path::new(folder))?),
         ["largest"] => {
             let (p, q) = largest();
             println!("{p} {q}");

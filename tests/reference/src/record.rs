@@ -26,6 +26,12 @@ pub fn write(record: Record, out: &mut [u8]) {
     }
 }
 
+/// The bytes of records, one after the other.
+pub fn bytes(records: impl IntoIterator<Item = Record>) -> Vec<u8> {
+    let words = records.into_iter().flatten();
+    words.flat_map(u32::to_be_bytes).collect()
+}
+
 /// Whether the kind is known and the words that it does not name are zero.
 pub fn has_form(record: &Record) -> bool {
     let named = match record[0] {

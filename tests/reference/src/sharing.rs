@@ -64,7 +64,7 @@ fn coefficient_at_zero(members: &[u32], i: u32, q: u32) -> u32 {
 }
 
 /// The product of the members' shares to their coefficients.
-fn at_zero(group: &Group, members: &[u32], shares: &[u32]) -> u32 {
+pub fn at_zero(group: &Group, members: &[u32], shares: &[u32]) -> u32 {
     let mut product = 1;
     for (&i, &share) in members.iter().zip(shares) {
         let power = group.power(share, coefficient_at_zero(members, i, group.q));

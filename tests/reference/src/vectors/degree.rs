@@ -124,5 +124,6 @@ fn refused(vectors: &mut Vectors, figures: Figures, numbers: &mut Numbers) {
         (7, &|c| c.coefficients[0] = u32::MAX),
         (9, &|c| other(&mut c.commitments[1])),
     ];
-    singly_and_in_pairs(&carried, &faults, |case| case.add(vectors));
+    let order = [1, 2, 3, 6, 7, 9];
+    singly_and_in_pairs(&order, &carried, &faults, |case| case.add(vectors));
 }

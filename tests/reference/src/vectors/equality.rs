@@ -116,5 +116,6 @@ fn refused(vectors: &mut Vectors, number: u32, group: &Group) {
         (10, &|c| other(&mut c.proof.announcements[0])),
         (10, &|c| other(&mut c.proof.announcements[1])),
     ];
-    singly_and_in_pairs(&right, &faults, |case| case.add(vectors));
+    let order = [1, 6, 7, 10];
+    singly_and_in_pairs(&order, &right, &faults, |case| case.add(vectors));
 }

@@ -4,13 +4,17 @@
 pub type Fault<'a, C> = (u32, &'a dyn Fn(&mut C));
 
 /// Adds a proper case, the case with each of the faults, and with each two of different numbers. The faults stand in
-/// the order of the operation's checks, so that of two the earlier counts. `add` adds a case and returns what it is
-/// refused by.
+/// the order of the operation's checks, so that of two the earlier counts, and none of its numbers is left out. `add`
+/// adds a case and returns what it is refused by.
 pub fn singly_and_in_pairs<C: Clone>(
+    order: &[u32],
     proper: &C,
     faults: &[Fault<C>],
     mut add: impl FnMut(&C) -> Option<u32>,
 ) {
+    let mut numbers: Vec<u32> = faults.iter().map(|fault| fault.0).collect();
+    numbers.dedup();
+    assert_eq!(numbers, order);
     assert_eq!(add(proper), None);
     for (k, (number, fault)) in faults.iter().enumerate() {
         let mut one = proper.clone();

@@ -16,6 +16,9 @@ const JUDGE_DEALING: Operation = Operation {
     name: "judge_dealing",
 };
 
+/// The numbers in the order of the checks.
+const ORDER: [u32; 10] = [1, 2, 8, 3, 6, 4, 6, 7, 9, 10];
+
 #[derive(Clone)]
 struct Case {
     figures: Figures,
@@ -89,7 +92,7 @@ pub fn add(vectors: &mut Vectors) {
         t: 16,
     };
     damaged(vectors, largest, 30, &mut numbers);
-    refused(vectors, fours()[1], &mut numbers);
+    refused(vectors, &Case::of(fours()[1], 2, &[3, 5], &mut numbers));
 }
 
 /// Dealings as they are written: of any polynomial, of 0, whose v and Y are all 1, and of one with the value 0 at the
@@ -143,8 +146,7 @@ fn damaged(vectors: &mut Vectors, figures: Figures, k: usize, numbers: &mut Numb
     }
 }
 
-/// Figures of two dealings with the same keys mixed; lines and keys in another order; a dealing under another dealer's
-/// number, with other keys, and in another round.
+/// Figures of two dealings with the same keys mixed: a line, and one figure of all lines.
 fn recombined(vectors: &mut Vectors, figures: Figures, numbers: &mut Numbers) {
     let q = proper(figures).group.q;
     let right = Case::of(figures, 3, &list(numbers, figures.t, q), numbers);
@@ -164,6 +166,11 @@ fn recombined(vectors: &mut Vectors, figures: Figures, numbers: &mut Numbers) {
         }
         case.add(vectors);
     }
+    elsewhere(vectors, &right);
+}
+
+/// Lines and keys in another order; a dealing under another dealer's number, and in another round.
+fn elsewhere(vectors: &mut Vectors, right: &Case) {
     let mut case = right.clone();
     case.lines.rotate_left(SIZE);
     case.add(vectors);
@@ -201,15 +208,15 @@ fn uncarried(vectors: &mut Vectors, figures: Figures, numbers: &mut Numbers) {
     }
 }
 
-fn refused(vectors: &mut Vectors, figures: Figures, numbers: &mut Numbers) {
-    let group = proper(figures).group;
+fn refused(vectors: &mut Vectors, right: &Case) {
+    let group = proper(right.figures).group;
     let (p, q) = (group.p, group.q);
-    let right = Case::of(figures, 2, &[3, 5], numbers);
     let element = |v| other_element(&group, v);
     let exponent = |e| other_exponent(&group, e);
-    let faults: [Fault<Case>; 29] = [
+    let faults: [Fault<Case>; 30] = [
         (1, &|c| c.figures.number = 0),
         (1, &|c| c.figures.number = 4),
+        (2, &|c| c.figures.n = 0),
         (2, &|c| c.figures.n = 32),
         (2, &|c| c.figures.t = 0),
         (2, &|c| c.figures.t = 5),
@@ -238,5 +245,5 @@ fn refused(vectors: &mut Vectors, figures: Figures, numbers: &mut Numbers) {
         (10, &|c| c.change(0, 5, exponent)),
         (10, &|c| c.change(1, 6, exponent)),
     ];
-    singly_and_in_pairs(&right, &faults, |case| case.add(vectors));
+    singly_and_in_pairs(&ORDER, right, &faults, |case| case.add(vectors));
 }

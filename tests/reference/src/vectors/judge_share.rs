@@ -15,6 +15,9 @@ const JUDGE_SHARE: Operation = Operation {
     name: "judge_share",
 };
 
+/// The numbers in the order of the checks.
+const ORDER: [u32; 9] = [1, 2, 8, 3, 6, 4, 6, 7, 10];
+
 #[derive(Clone)]
 struct Case {
     figures: Figures,
@@ -99,7 +102,9 @@ pub fn add(vectors: &mut Vectors) {
         damaged(vectors, round, &mut numbers);
         elsewhere(vectors, round, &mut numbers);
     }
-    refused(vectors, fours()[1], &mut numbers);
+    let any = Case::any(fours()[1], &mut numbers);
+    refused(vectors, &any);
+    too_short(vectors, &any);
 }
 
 /// Every challenge and response of group 1 with a false S: about one in q is accepted.
@@ -141,7 +146,7 @@ fn damaged(vectors: &mut Vectors, figures: Figures, numbers: &mut Numbers) {
     }
 }
 
-/// A share under another dealer's or member's number, with another key or Y, and in another round.
+/// A share under another dealer's or member's number, and with another key or Y.
 fn elsewhere(vectors: &mut Vectors, figures: Figures, numbers: &mut Numbers) {
     let group = proper(figures).group;
     let right = Case::any(figures, numbers);
@@ -170,12 +175,17 @@ fn elsewhere(vectors: &mut Vectors, figures: Figures, numbers: &mut Numbers) {
         }
         .add(vectors);
     }
+    in_other_rounds(vectors, &right);
+}
+
+fn in_other_rounds(vectors: &mut Vectors, right: &Case) {
+    let number = right.figures.number;
     for (number, n, t) in [
         (1, 4, 2),
         (2, 4, 2),
         (3, 4, 2),
-        (figures.number, 5, 2),
-        (figures.number, 4, 3),
+        (number, 5, 2),
+        (number, 4, 3),
     ] {
         Case {
             figures: Figures { number, n, t },
@@ -185,10 +195,9 @@ fn elsewhere(vectors: &mut Vectors, figures: Figures, numbers: &mut Numbers) {
     }
 }
 
-fn refused(vectors: &mut Vectors, figures: Figures, numbers: &mut Numbers) {
-    let group = proper(figures).group;
+fn refused(vectors: &mut Vectors, any: &Case) {
+    let group = proper(any.figures).group;
     let (p, q) = (group.p, group.q);
-    let element = |v| other_element(&group, v);
     let exponent = |e| other_exponent(&group, e);
     let faults: [Fault<Case>; 31] = [
         (1, &|c| c.figures.number = 0),
@@ -219,12 +228,14 @@ fn refused(vectors: &mut Vectors, figures: Figures, numbers: &mut Numbers) {
         (7, &|c| c.change(4, |_| q)),
         (7, &|c| c.change(5, |_| q)),
         (7, &|c| c.change(5, |_| u32::MAX)),
-        (10, &|c| c.change(3, element)),
+        (10, &|c| c.change(3, |v| other_element(&group, v))),
         (10, &|c| c.change(4, exponent)),
         (10, &|c| c.change(5, exponent)),
     ];
-    let any = Case::any(figures, numbers);
-    singly_and_in_pairs(&any, &faults, |case| case.add(vectors));
+    singly_and_in_pairs(&ORDER, any, &faults, |case| case.add(vectors));
+}
+
+fn too_short(vectors: &mut Vectors, any: &Case) {
     for length in [0, 31] {
         let mut short = any.clone();
         short.record.truncate(length);

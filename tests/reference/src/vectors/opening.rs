@@ -117,5 +117,6 @@ fn refused(vectors: &mut Vectors, figures: Figures, numbers: &mut Numbers) {
         (7, &|c| c.s = u32::MAX),
         (11, &|c| other(&mut c.commitments[1])),
     ];
-    singly_and_in_pairs(&right, &faults, |case| case.add(vectors));
+    let order = [1, 2, 3, 6, 7, 11];
+    singly_and_in_pairs(&order, &right, &faults, |case| case.add(vectors));
 }

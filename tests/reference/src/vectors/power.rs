@@ -1,5 +1,6 @@
 //! Cases of the power. The arguments are group, base and exponent.
 
+use super::faults::{singly_and_in_pairs, Fault};
 use super::{Operation, Vectors};
 use crate::group::{group, power, Group, G, H};
 use crate::numbers::Numbers;
@@ -21,15 +22,33 @@ pub fn add(vectors: &mut Vectors) {
     for (number, count) in [(1, 0), (2, 40), (3, 80)] {
         let group = group(number).expect("a group from 1 to 3");
         edges(vectors, number, &group);
+        refused(vectors, number, &group);
         for _ in 0..count {
             varied(vectors, number, &group, &mut numbers);
         }
     }
 }
 
-fn case(vectors: &mut Vectors, number: u32, base: u32, exponent: u32) {
+/// Adds a case. Returns the number that it is refused by.
+fn case(vectors: &mut Vectors, number: u32, base: u32, exponent: u32) -> Option<u32> {
     let answer = power(number, base, exponent).map(|value| value.to_string());
-    vectors.add(&POWER, &[number, base, exponent], &[], answer);
+    vectors.add(&POWER, &[number, base, exponent], &[], answer)
+}
+
+/// The faults of group, base and exponent.
+fn refused(vectors: &mut Vectors, number: u32, &Group { p, q }: &Group) {
+    let faults: [Fault<[u32; 3]>; 6] = [
+        (1, &|c| c[0] = 0),
+        (1, &|c| c[0] = 4),
+        (6, &|c| c[1] = 0),
+        (6, &|c| c[1] = p - 1),
+        (7, &|c| c[2] = q),
+        (7, &|c| c[2] = u32::MAX),
+    ];
+    let proper = [number, G, q - 1];
+    singly_and_in_pairs(&[1, 6, 7], &proper, &faults, |&[number, base, exponent]| {
+        case(vectors, number, base, exponent)
+    });
 }
 
 /// The figures by hand.

@@ -151,5 +151,6 @@ fn refused(vectors: &mut Vectors, figures: Figures, numbers: &mut Numbers) {
         (6, &|c| c.shares.fill(p - 1)),
         (6, &|c| c.shares.fill(p)),
     ];
-    singly_and_in_pairs(&quorum, &faults, |case| case.add(vectors));
+    let order = [1, 2, 3, 8, 6];
+    singly_and_in_pairs(&order, &quorum, &faults, |case| case.add(vectors));
 }

@@ -131,7 +131,8 @@ fn refused(vectors: &mut Vectors, figures: Figures, numbers: &mut Numbers) {
         (7, &|c| *c.nonces.last_mut().unwrap() = q),
     ];
     let any = Case::of(figures, 2, numbers);
-    singly_and_in_pairs(&any, &faults, |case| case.add(vectors));
+    let order = [1, 2, 8, 3, 6, 7];
+    singly_and_in_pairs(&order, &any, &faults, |case| case.add(vectors));
     let mut short = any.clone();
     short.coefficients.clear();
     assert_eq!(short.add(vectors), Some(3));

@@ -133,5 +133,6 @@ fn refused(vectors: &mut Vectors, figures: Figures, numbers: &mut Numbers) {
         (7, &|c| c.nonce = u32::MAX),
     ];
     let any = Case::any(figures, numbers);
-    singly_and_in_pairs(&any, &faults, |case| case.add(vectors));
+    let order = [1, 2, 8, 3, 6, 7];
+    singly_and_in_pairs(&order, &any, &faults, |case| case.add(vectors));
 }

@@ -1,0 +1,120 @@
+//! What `draw` prints, from the bytes of `round.set` and `board.bin`.
+
+use crate::answer::{require, Answer};
+use crate::board::{judge_board, Judged, Secret, Verdict};
+use crate::record::{self, Record, SIZE};
+use crate::round::Figures;
+use std::path::Path;
+use std::{fs, io};
+
+pub const SET_FILE: &str = "round.set";
+pub const BOARD_FILE: &str = "board.bin";
+
+/// The first word of a round's set.
+const SET: u32 = 9;
+
+/// The record that a round's set is.
+pub fn set_record(figures: Figures) -> Record {
+    let Figures { number, n, t } = figures;
+    [SET, number, n, t, 0, 0, 0, 0]
+}
+
+/// 3 not one record; 4 of another shape.
+fn read_set(bytes: &[u8]) -> Answer<Figures> {
+    require(bytes.len() == SIZE, 3)?;
+    let [set, number, n, t, spare @ ..] = record::read(bytes);
+    require(set == SET && spare == [0; 4], 4)?;
+    Ok(Figures { number, n, t })
+}
+
+/// The text: the set is judged first, then the board.
+pub fn text(set: &[u8], board: &[u8]) -> String {
+    let judged = read_set(set)
+        .and_then(|figures| judge_board(figures, board).map(|judged| report(figures, &judged)));
+    judged.unwrap_or_else(refused)
+}
+
+fn refused(number: u32) -> String {
+    format!("refused {number}\n")
+}
+
+/// The text of a board whose verdicts are reached.
+fn report(figures: Figures, judged: &Judged) -> String {
+    let Figures { number, n, t } = figures;
+    let mut text = format!("round {number} {n} {t}\n");
+    for (dealer, verdict) in (1..).zip(&judged.verdicts) {
+        text += &format!("dealer {dealer} {}\n", verdict_text(verdict));
+    }
+    text += &format!("accepted {}\n", judged.accepted);
+    text += &match judged.draw {
+        Ok(value) => format!("draw {value}\n"),
+        Err(number) => refused(number),
+    };
+    text
+}
+
+fn verdict_text(verdict: &Verdict) -> String {
+    match verdict {
+        Verdict::None => "none".to_string(),
+        Verdict::Refused(number) => format!("refused {number}"),
+        Verdict::Accepted(Secret::Opened(secret)) => format!("opened {secret}"),
+        Verdict::Accepted(Secret::Recovered(secret)) => format!("recovered {secret}"),
+        Verdict::Accepted(Secret::Stuck) => "stuck".to_string(),
+    }
+}
+
+/// A file's bytes, none where it is missing.
+fn read_file(path: &Path) -> io::Result<Vec<u8>> {
+    match fs::read(path) {
+        Err(error) if error.kind() == io::ErrorKind::NotFound => Ok(Vec::new()),
+        bytes => bytes,
+    }
+}
+
+/// The text of the two files in a folder.
+pub fn text_of(folder: &Path) -> io::Result<String> {
+    let set = read_file(&folder.join(SET_FILE))?;
+    let board = read_file(&folder.join(BOARD_FILE))?;
+    Ok(text(&set, &board))
+}
+
+/// The files of the example round: two members of group 1, threshold 1, and their keys 12 and 9.
+pub fn example() -> [(&'static str, Vec<u8>); 2] {
+    let two = Figures {
+        number: 1,
+        n: 2,
+        t: 1,
+    };
+    let keys = [12, 9];
+    let records = (1..)
+        .zip(keys)
+        .map(|(member, y)| [record::KEY, 0, member, y, 0, 0, 0, 0]);
+    [
+        (SET_FILE, record::bytes([set_record(two)])),
+        (BOARD_FILE, record::bytes(records)),
+    ]
+}
+
+#[cfg(test)]
+mod tests {
+    use super::*;
+
+    #[test]
+    fn the_example_round() {
+        let [(_, set), (_, board)] = example();
+        assert_eq!(set.len() + board.len(), 96);
+        let expected = "round 1 2 1\ndealer 1 none\ndealer 2 none\naccepted 0\nrefused 14\n";
+        assert_eq!(text(&set, &board), expected);
+    }
+
+    #[test]
+    fn the_set_is_judged_first() {
+        let [(_, mut set), (_, board)] = example();
+        assert_eq!(text(&set, &board[1..]), "refused 3\n");
+        assert_eq!(text(&set, &[]), "refused 12\n");
+        set[31] = 1;
+        assert_eq!(text(&set, &board[1..]), "refused 4\n");
+        assert_eq!(text(&set[1..], &board), "refused 3\n");
+        assert_eq!(text(&[], &[]), "refused 3\n");
+    }
+}

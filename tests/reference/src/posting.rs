@@ -1,0 +1,69 @@
+//! What members whose secret keys are known post on a board.
+
+use crate::dealing::deal;
+use crate::group::H;
+use crate::record::{self, Record, KEY, OPENING, SIZE};
+use crate::round::{Figures, Round};
+use crate::share::write_share;
+
+/// The members of a round with their keys.
+pub struct Members {
+    pub figures: Figures,
+    pub round: Round,
+    pub secret_keys: Vec<u32>,
+    pub keys: Vec<u32>,
+}
+
+impl Members {
+    pub fn new(figures: Figures, secret_keys: &[u32]) -> Members {
+        let round = figures.round().expect("a proper round");
+        let keys = secret_keys.iter().map(|&x| round.group.power(H, x));
+        Members {
+            figures,
+            keys: keys.collect(),
+            secret_keys: secret_keys.to_vec(),
+            round,
+        }
+    }
+
+    pub fn key_records(&self) -> Vec<Record> {
+        let keys = (1..).zip(&self.keys);
+        keys.map(|(i, &y)| [KEY, 0, i, y, 0, 0, 0, 0]).collect()
+    }
+
+    /// The lines of each member's exponent, whether some polynomial takes these as its values or not.
+    pub fn lines(&self, dealer: u32, exponents: &[u32], nonces: &[u32]) -> Vec<Record> {
+        let mut bytes = vec![0; SIZE * self.keys.len()];
+        deal(
+            &self.round,
+            dealer,
+            &self.keys,
+            exponents,
+            nonces,
+            &mut bytes,
+        );
+        bytes.chunks_exact(SIZE).map(record::read).collect()
+    }
+
+    /// The opened share of the member of a line.
+    pub fn share(&self, line: &Record, nonce: u32) -> Record {
+        let [_, dealer, member, _, encrypted, ..] = *line;
+        let x = self.secret_keys[member as usize - 1];
+        let mut bytes = [0; SIZE];
+        let written = write_share(
+            self.figures,
+            dealer,
+            member,
+            encrypted,
+            x,
+            nonce,
+            &mut bytes,
+        );
+        written.expect("proper figures");
+        record::read(&bytes)
+    }
+}
+
+pub fn opening_record(dealer: u32, s: u32) -> Record {
+    [OPENING, dealer, 0, s, 0, 0, 0, 0]
+}

@@ -1,0 +1,115 @@
+//! Cases on boards: a dealer's lines, and the text of `draw`. The fifth argument is the base board's length in bytes,
+//! and the sixth the set's, which is 0 for a dealer's lines; the payload has the set, and the board as changes of the
+//! base. The text's length is in the case's line, and the text follows it.
+
+mod damaged;
+mod forging;
+mod form;
+mod lines;
+mod played;
+mod posted;
+mod refused;
+mod splices;
+mod varied;
+
+use super::sample::rounds;
+use super::{Operation, Vectors};
+use crate::draw;
+use crate::numbers::Numbers;
+use crate::round::Figures;
+use posted::Posted;
+use splices::splices;
+
+#[cfg(test)]
+pub use splices::applied;
+
+const TEXT: Operation = Operation {
+    number: 13,
+    name: "text",
+};
+
+/// Group and threshold of the rounds of 31 members.
+const LARGEST: [(u32, u32); 4] = [(2, 16), (3, 1), (3, 16), (3, 31)];
+
+impl Posted {
+    /// Adds a case. Returns the text.
+    fn add(&self, vectors: &mut Vectors) -> String {
+        add_files(vectors, &self.set, &self.board())
+    }
+}
+
+/// Adds a case of the bytes of both files. Returns the text.
+fn add_files(vectors: &mut Vectors, set: &[u8], board: &[u8]) -> String {
+    let text = draw::text(set, board);
+    let lengths = [vectors.base.len() as u32, set.len() as u32];
+    let arguments = [0, 0, 0, 0, lengths[0], lengths[1]];
+    let payload = [set, &splices(&vectors.base, board)].concat();
+    let answer = format!("{}\n{}", text.len(), text.trim_end());
+    vectors.line(&TEXT, &arguments, &payload, &answer);
+    text
+}
+
+/// The number in a line that ends in `refused` and a number.
+fn refusal(line: &str) -> Option<u32> {
+    let words: Vec<&str> = line.split(' ').collect();
+    match words[..] {
+        [.., "refused", number] => number.parse().ok(),
+        _ => None,
+    }
+}
+
+/// The number in the text's last line, where this is a refusal.
+fn refused_by(text: &str) -> Option<u32> {
+    refusal(text.lines().last().expect("a text has lines"))
+}
+
+/// The number in a dealer's line, where it is a refusal.
+fn dealer_refused_by(text: &str, dealer: u32) -> Option<u32> {
+    let start = format!("dealer {dealer} ");
+    refusal(text.lines().find(|line| line.starts_with(&start))?)
+}
+
+pub fn add(vectors: &mut Vectors) {
+    let mut numbers = Numbers::new(11);
+    for figures in rounds().into_iter().filter(|figures| figures.n <= 10) {
+        let all = Posted::loaded(vectors, figures, &mut numbers);
+        lines::dealers(vectors, figures, &all);
+        played::add(vectors, figures, &all);
+    }
+    for number in 1..=3 {
+        of_group(vectors, number, &mut numbers);
+    }
+    for (number, t) in LARGEST {
+        let figures = Figures { number, n: 31, t };
+        let all = Posted::loaded(vectors, figures, &mut numbers);
+        played::add(vectors, figures, &all);
+        match (number, t) {
+            (3, 1) => form::sizes(vectors, &all),
+            (3, 16) => {
+                lines::largest(vectors, figures, &all);
+                damaged::large(vectors, figures, &all);
+            }
+            _ => {}
+        }
+    }
+    forging::in_group_1(vectors, &mut numbers);
+    refused::ranges(vectors, &mut numbers);
+    varied::add(vectors, &mut numbers);
+}
+
+/// Boards of small rounds that are damaged, of improper form, refused and forged.
+fn of_group(vectors: &mut Vectors, number: u32, numbers: &mut Numbers) {
+    let three = Figures { number, n: 3, t: 2 };
+    let all = Posted::loaded(vectors, three, numbers);
+    damaged::small(vectors, three, &all);
+    form::add(vectors, &all);
+    let four = Figures { number, n: 4, t: 2 };
+    let all = Posted::loaded(vectors, four, numbers);
+    if number != 2 {
+        lines::add(vectors, four, &all);
+    }
+    refused::add(vectors, four, &all);
+    let five = Figures { number, n: 5, t: 3 };
+    let all = Posted::loaded(vectors, five, numbers);
+    forging::add(vectors, five, &all);
+}

@@ -1,0 +1,260 @@
+//! Tests that the vectors have every class of cases.
+
+use super::boards::applied;
+use super::{all, Vectors};
+use crate::draw;
+use crate::group::group;
+use crate::record::{self, Record, SIZE};
+use std::collections::BTreeSet;
+use std::sync::OnceLock;
+
+/// A case as the product's program reads it, with the line that it prints.
+struct Case {
+    operation: u32,
+    arguments: [u32; 6],
+    payload: Vec<u8>,
+    answer: String,
+    /// The set, the board and the text of a case of the text.
+    files: Option<(Vec<u8>, Vec<u8>, String)>,
+}
+
+/// Every case.
+fn cases() -> &'static [Case] {
+    static CASES: OnceLock<Vec<Case>> = OnceLock::new();
+    CASES.get_or_init(read_cases)
+}
+
+/// Reads the cases again, each with its line and, of the text, so many bytes behind it as the line says.
+fn read_cases() -> Vec<Case> {
+    let Vectors { stdin, stdout, .. } = all();
+    let (mut input, mut output) = (&stdin[..], &stdout[..]);
+    let (mut cases, mut base) = (Vec::new(), Vec::new());
+    while !input.is_empty() {
+        let [operation, a, b, c, d, e, f, length] = record::read(input);
+        let (payload, rest) = input[SIZE..].split_at(length as usize);
+        let (line, mut behind) = output.split_once('\n').unwrap();
+        let (_, answer) = line.split_once(' ').unwrap();
+        let mut files = None;
+        if operation == 14 {
+            base = payload.to_vec();
+        }
+        if operation == 13 {
+            let (set, splices) = payload.split_at(f as usize);
+            let (text, rest) = behind.split_at(answer.parse().unwrap());
+            behind = rest;
+            files = Some((set.to_vec(), applied(&base, splices), text.to_string()));
+        }
+        cases.push(Case {
+            operation,
+            arguments: [a, b, c, d, e, f],
+            payload: payload.to_vec(),
+            answer: answer.to_string(),
+            files,
+        });
+        (input, output) = (rest, behind);
+    }
+    assert!(output.is_empty());
+    cases
+}
+
+fn answered(operation: u32) -> impl Iterator<Item = &'static Case> {
+    let cases = cases().iter();
+    cases.filter(move |case| case.operation == operation)
+}
+
+/// The set, the board and the text of each case of the text.
+fn texts() -> impl Iterator<Item = &'static (Vec<u8>, Vec<u8>, String)> {
+    cases().iter().filter_map(|case| case.files.as_ref())
+}
+
+/// The lines of a case of judging a dealing.
+fn lines(case: &Case) -> Vec<Record> {
+    let keys = 4 * case.arguments[4] as usize;
+    let records = case.payload[keys..].chunks_exact(SIZE);
+    records.map(record::read).collect()
+}
+
+#[test]
+fn every_number_of_each_operation() {
+    let numbers: [(u32, &[u32]); 11] = [
+        (1, &[3]),
+        (2, &[1, 6, 7]),
+        (3, &[1, 2, 3, 6, 7, 9]),
+        (4, &[1, 2, 3, 6, 7, 11]),
+        (5, &[1, 2, 3, 6, 8]),
+        (6, &[1, 6, 7, 10]),
+        (7, &[1, 2, 3, 6, 7, 8]),
+        (8, &[1, 2, 3, 4, 6, 7, 8, 9, 10]),
+        (9, &[1, 2, 3, 6, 7, 8]),
+        (10, &[1, 2, 3, 4, 6, 7, 8, 10]),
+        (11, &[1, 2, 3, 4, 5, 8]),
+    ];
+    let cases = cases();
+    for (operation, numbers) in numbers {
+        let of_it = cases.iter().filter(|case| case.operation == operation);
+        let refusal = |case: &Case| -> Option<u32> {
+            let number = case.answer.strip_prefix("refused ")?;
+            number.split(' ').next()?.parse().ok()
+        };
+        let refusals: BTreeSet<Option<u32>> = of_it.map(refusal).collect();
+        let expected = numbers.iter().map(|&number| Some(number));
+        assert_eq!(refusals, expected.chain([None]).collect());
+    }
+}
+
+/// From 3 to 10 the operations of a round, and a dealer's lines.
+#[test]
+fn the_fewest_members_and_the_most() {
+    let cases = cases();
+    for operation in [3, 4, 5, 7, 8, 9, 10, 11] {
+        for (number, n) in [(1, 1), (2, 1), (3, 1), (1, 10), (3, 31)] {
+            let is_one = |case: &Case| {
+                let has_figures = case.arguments[..2] == [number, n];
+                case.operation == operation && has_figures && !case.answer.starts_with("refused")
+            };
+            assert!(cases.iter().any(is_one), "{operation} {number} {n}");
+        }
+    }
+}
+
+#[test]
+fn unequal_challenges_of_which_one_is_no_exponent() {
+    for number in 1..=3 {
+        let q = group(number).unwrap().q;
+        let is_one = |case: &Case| {
+            let lines = lines(case);
+            let challenges = lines.iter().filter(|line| line[6] < q).count();
+            lines.iter().all(|line| line[5] < q) && 0 < challenges && challenges < lines.len()
+        };
+        assert!(answered(8).any(|case| {
+            case.arguments[0] == number && case.answer == "refused 7" && is_one(case)
+        }));
+    }
+}
+
+/// Challenges that differ are refused by 10, unless the commitments are refused before.
+#[test]
+fn unequal_challenges_and_commitments_of_no_polynomial() {
+    let unequal = |case: &Case| {
+        let lines = lines(case);
+        lines.iter().any(|line| line[6] != lines[0][6])
+    };
+    for answer in ["refused 9", "refused 10"] {
+        assert!(answered(8).any(|case| case.answer == answer && unequal(case)));
+    }
+}
+
+#[test]
+fn figures_1_are_accepted() {
+    for number in 1..=3 {
+        let is_one = |case: &Case| {
+            let lines = lines(case);
+            let ones = lines.iter().filter(|line| line[3..5] == [1, 1]).count();
+            case.arguments[0] == number && 0 < ones && ones < lines.len()
+        };
+        assert!(answered(8).any(|case| case.answer == "passed" && is_one(case)));
+        let encrypted_1 = |case: &Case| case.payload[4..8] == [0, 0, 0, 1];
+        assert!(answered(10).any(|case| {
+            case.arguments[0] == number && case.answer == "1" && encrypted_1(case)
+        }));
+    }
+}
+
+#[test]
+fn lines_in_whole_and_in_part_and_none() {
+    let lengths: BTreeSet<String> = answered(12)
+        .map(|case| case.answer.split(' ').next().unwrap().to_string())
+        .collect();
+    for length in [0, 32, 96, 128, 32 * 10, 32 * 31] {
+        assert!(lengths.contains(&length.to_string()), "{length}");
+    }
+}
+
+#[test]
+fn a_thousand_boards_with_their_texts() {
+    let mut boards = BTreeSet::new();
+    for (set, board, text) in texts() {
+        assert_eq!(draw::text(set, board), *text);
+        boards.insert((set, board));
+    }
+    for number in 1..=3 {
+        let is_of_group = |set: &[u8]| set.len() == SIZE && record::read(set)[1] == number;
+        let count = boards.iter().filter(|(set, _)| is_of_group(set)).count();
+        assert!(count >= 1000, "{count} of group {number}");
+    }
+}
+
+/// Every number of the last line, and every verdict, in each group.
+#[test]
+fn every_verdict_and_refusal_of_a_board() {
+    let (mut ends, mut verdicts) = (BTreeSet::new(), BTreeSet::new());
+    for (set, _, text) in texts() {
+        let number = set.get(7).copied().unwrap_or(0);
+        for line in text.lines() {
+            let words: Vec<&str> = line.split(' ').collect();
+            match words[..] {
+                ["draw", _] => ends.insert((number, "draw".to_string())),
+                ["refused", refused] => ends.insert((number, refused.to_string())),
+                ["dealer", _, "refused", refused] => verdicts.insert((number, refused.to_string())),
+                ["dealer", _, verdict, ..] => verdicts.insert((number, verdict.to_string())),
+                _ => true,
+            };
+        }
+    }
+    for number in 1..=3 {
+        for end in ["draw", "2", "3", "4", "5", "12", "6", "14", "13"] {
+            assert!(ends.contains(&(number, end.to_string())), "{number} {end}");
+        }
+        for verdict in [
+            "none",
+            "opened",
+            "recovered",
+            "stuck",
+            "12",
+            "6",
+            "7",
+            "9",
+            "10",
+        ] {
+            assert!(
+                verdicts.contains(&(number, verdict.to_string())),
+                "{number} {verdict}"
+            );
+        }
+    }
+    assert!([0, 4].iter().all(|&n| ends.contains(&(n, "1".to_string()))));
+}
+
+#[test]
+fn sizes_of_sets_and_boards() {
+    let (mut sets, mut boards, mut rounds) = (BTreeSet::new(), BTreeSet::new(), BTreeSet::new());
+    for (set, board, text) in texts() {
+        sets.insert(set.len());
+        boards.insert(board.len());
+        if let Some(round) = text.strip_prefix("round ") {
+            rounds.insert(round.lines().next().unwrap().to_string());
+        }
+    }
+    for length in [0, 1, 31, 32, 33] {
+        assert!(sets.contains(&length), "{length}");
+    }
+    for length in [
+        0,
+        1,
+        31,
+        32,
+        33,
+        65_535,
+        65_536,
+        65_537,
+        32 * 1984,
+        32 * 2049,
+    ] {
+        assert!(boards.contains(&length), "{length}");
+    }
+    for round in [
+        "1 1 1", "1 10 10", "2 31 16", "3 1 1", "3 31 1", "3 31 16", "3 31 31",
+    ] {
+        assert!(rounds.contains(round), "{round}");
+    }
+}
