@@ -2,6 +2,7 @@
 //! with the product, and writes the vectors that the product is run on.
 
 mod answer;
+mod bench;
 mod board;
 mod dealing;
 mod draw;
@@ -20,7 +21,9 @@ mod share;
 mod sharing;
 mod vectors;
 
+use round::Figures;
 use std::error::Error;
+use std::io::{self, Write};
 use std::path::Path;
 use std::process::ExitCode;
 use std::{env, fs};
@@ -28,7 +31,8 @@ use std::{env, fs};
 type Done = Result<(), Box<dyn Error>>;
 
 const USAGE: &str =
-    "usage: reference vectors DIR | forge DIR | example DIR | draw DIR | largest | digest FILE";
+    "usage: reference vectors DIR | forge DIR | example DIR | draw DIR | largest | digest FILE
+       reference board GROUP N T opened|recovered DIR | case FILE";
 
 /// The primes p and q of group 3: the largest below 2^32.
 fn largest() -> (u64, u64) {
@@ -61,6 +65,15 @@ fn run(words: &[String]) -> Done {
         ["forge", folder] => write_files(folder, &forge::files())?,
         ["example", folder] => write_files(folder, &draw::example())?,
         ["draw", folder] => print!("{}", draw::text_of(Path::new(folder))?),
+        ["board", number, n, t, source, folder] => {
+            let figures = Figures {
+                number: number.parse()?,
+                n: n.parse()?,
+                t: t.parse()?,
+            };
+            write_files(folder, &bench::round(figures, source == "opened"))?;
+        }
+        ["case", file] => io::stdout().write_all(&bench::case(&fs::read(file)?))?,
         ["largest"] => {
             let (p, q) = largest();
             println!("{p} {q}");

@@ -8,7 +8,7 @@
 //!
 //! Boards are given as changes of a base board, which a case of its own loads.
 
-mod boards;
+pub mod boards;
 #[cfg(test)]
 mod coverage;
 mod degree;

@@ -7,7 +7,7 @@ mod forging;
 mod form;
 mod lines;
 mod played;
-mod posted;
+pub mod posted;
 mod refused;
 mod splices;
 mod varied;

@@ -54,7 +54,7 @@ pub fn add(vectors: &mut Vectors) {
     }
 }
 
-fn spelled(vectors: &mut Vectors, message: &[u8]) {
+pub fn spelled(vectors: &mut Vectors, message: &[u8]) {
     vectors.add(&DIGEST, &[0], message, answer(message));
 }
 
