@@ -1,2 +1,3 @@
 -- What `draw` prints.
 pub mod Text
+pub mod Buffer

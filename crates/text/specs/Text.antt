@@ -13,12 +13,13 @@ use Rattle.sharing.specs.declared.Round.{Round}
 use Rattle.board.specs.Board.{boardChecks}
 use Rattle.verdicts.specs.Verdict.{Judges, verdictsOn}
 use Rattle.verdicts.specs.Draw.{countAccepted, drawOn}
+use Rattle.verdicts.specs.declared.Secret.{Secret}
 use Rattle.verdicts.specs.declared.Secret.the-variants.{Opened, Recovered, Stuck}
 use Rattle.verdicts.specs.declared.Verdict.{Verdict}
 use Rattle.verdicts.specs.declared.Verdict.the-variants.{None, Refused, Accepted}
 
 -- the decimal digits of v, which is below 10 to the power k
-abbrev pub digits : ℕ → ℕ → List ℕ
+unfoldable pub digits : ℕ → ℕ → List ℕ
 digits zero v = []
 digits (suc k) v = pick (ltb v 10) ((48 + v) ∷ []) (digits k (v / 10) ++ ((48 + v % 10) ∷ []))
 
@@ -61,15 +62,19 @@ stuckWord = 115 ∷ 116 ∷ 117 ∷ 99 ∷ 107 ∷ []
 unfoldable pub refusedLine : ℕ → List ℕ
 refusedLine k = refusedWord ++ (figure k ++ newLine)
 
+-- how the secret of an accepted dealing came, and its value
+abbrev pub secretText : Secret → List ℕ
+secretText (Opened v) = openedWord ++ figure (v .0)
+secretText (Recovered v) = recoveredWord ++ figure (v .0)
+secretText Stuck = stuckWord
+
 abbrev pub verdictText : Verdict → List ℕ
 verdictText None = noneWord
 verdictText (Refused k) = refusedWord ++ figure k
-verdictText (Accepted (Opened v)) = openedWord ++ figure (v .0)
-verdictText (Accepted (Recovered v)) = recoveredWord ++ figure (v .0)
-verdictText (Accepted Stuck) = stuckWord
+verdictText (Accepted s) = secretText s
 
 unfoldable pub dealerLine : ℕ → Verdict → List ℕ
-dealerLine d v = dealerWord ++ (figure d ++ (32 ∷ (verdictText v ++ newLine)))
+dealerLine d v = (dealerWord ++ figure d) ++ ((32 ∷ []) ++ (verdictText v ++ newLine))
 
 -- the lines of the dealers from d on
 abbrev pub dealerLines : ℕ → List Verdict → List ℕ
@@ -81,7 +86,7 @@ drawLine (value v) = drawWord ++ (figure (v .0) ++ newLine)
 drawLine (refused k) = refusedLine k
 
 unfoldable pub roundLine : Round → List ℕ
-roundLine R = roundWord ++ (figure (R .group) ++ (figure (R .n) ++ (figure (R .t) ++ newLine)))
+roundLine R = (roundWord ++ figure (R .group)) ++ (figure (R .n) ++ (figure (R .t) ++ newLine))
 
 unfoldable pub acceptedLine : ℕ → List ℕ
 acceptedLine m = acceptedWord ++ (figure m ++ newLine)

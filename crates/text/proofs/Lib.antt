@@ -1,0 +1,3 @@
+-- Laws of text written into a buffer, of figures, and of the lines.
+pub mod Writing
+pub mod Figures
