@@ -1,5 +1,5 @@
 -- Text written one piece behind the other: where each piece finds room, and what they are together.
-use mathlib.Core.Path.{_≡_, refl, sym, ap, _∙_}
+use mathlib.Core.Path.{_≡_, refl, sym, ap, _∙_, subst}
 use mathlib.Core.List.{List, [], _∷_, _++_}
 use Prim.Native.Nat.{ℕ, suc, _+_, _≤_, _<_}
 use native.Mathlib.Numerals.{add-one}
@@ -10,6 +10,14 @@ use Rattle.words.specs.Bytes.{putAt}
 use Rattle.words.proofs.Bytes.{put-length}
 use Rattle.posted.proofs.Buffers.{put-none, put-put}
 use Rattle.text.specs.Buffer.{Room, Written}
+
+-- ---- another name of the same text
+module _ {k : ℕ} {xs ys l : List ℕ} (e : xs ≡ ys) where
+  pub room-as : Room k xs l → Room k ys l
+  room-as = subst (λ (t : List ℕ). Room k t l) e
+
+  pub written-as : {m : List ℕ} {r : ℕ} → Written k ys l m r → Written k xs l m r
+  written-as {m} {r} = subst (λ (t : List ℕ). Written k t l m r) (sym e)
 
 -- ---- two pieces
 module _ {k : ℕ} {l : List ℕ} (xs ys : List ℕ) (room : Room k (xs ++ ys) l) where
@@ -33,6 +41,29 @@ module _ {k : ℕ} {l : List ℕ} (xs ys : List ℕ) (room : Room k (xs ++ ys) l
             ∙ put-put k i xs ys l (w .behind) (omega (arith, w .behind, room-first .fits));
           behind = omega (arith, v .behind, w .behind, length-append xs ys);
         }
+
+-- ---- four pieces
+module _ {k : ℕ} {l : List ℕ} (a b c d : List ℕ) (room : Room k (a ++ (b ++ (c ++ d))) l) where
+  pub first-room : Room k a l
+  first-room = room-first a (b ++ (c ++ d)) room
+
+  module _ {m : List ℕ} {i : ℕ} (u : Written k a l m i) where
+    rest : Room i (b ++ (c ++ d)) m
+    rest = room-rest a (b ++ (c ++ d)) room u
+
+    pub second-room : Room i b m
+    second-room = room-first b (c ++ d) rest
+
+    module _ {n : List ℕ} {j : ℕ} (v : Written i b m n j) where
+      pub third-room : Room j c n
+      third-room = room-first c d (room-rest b (c ++ d) rest v)
+
+      module _ {o : List ℕ} {h : ℕ} (w : Written j c n o h) where
+        pub fourth-room : Room h d o
+        fourth-room = room-rest c d (room-rest b (c ++ d) rest v) w
+
+        pub all-four : {p : List ℕ} {r : ℕ} → Written h d o p r → Written k (a ++ (b ++ (c ++ d))) l p r
+        all-four x = both a (b ++ (c ++ d)) room u (both b (c ++ d) rest v (both c d (room-rest b (c ++ d) rest v) w x))
 
 -- ---- bytes one by one
 pub written-none : (k r : ℕ) (l : List ℕ) → r ≡ k → Written k [] l l r

@@ -1,34 +1,49 @@
-use borrow.Author.Needs.{needs}
+-- `put_line` meets its contract: word, figure and line end are written one behind the other.
+use mathlib.Core.Path.{refl, _∙_}
+use mathlib.Core.List.{_++_}
+use Rattle.text.specs.Text.{figure, newLine}
+use Rattle.text.proofs.Writing.{room-first, room-rest, both}
 use Rattle.text.proofs.lines.put_line.Statement.{statement}
 use Rattle.text.proofs.lines.put_line.Tie as tie
-use Rattle.text.proofs.lines.put_line.Reads as reads
-use Rattle.text.proofs.lines.put_line.Lts as lts
-use Rattle.text.proofs.buffer.put_bytes.Reads as put-bytes-reads
-use Rattle.text.proofs.buffer.put_figure.Reads as put-figure-reads
 
--- src/lines.rt:27:9
 put-bytes-requires : tie.Need-put-bytes-requires
-put-bytes-requires c κs = ?
+put-bytes-requires c κs =
+    let s = c .before .before .before in
+    room-first (s .args .word .now) (figure (s .args .v) ++ newLine) (s .pre)
 
--- src/lines.rt:28:9
 put-figure-requires : tie.Need-put-figure-requires
-put-figure-requires c κs = ?
+put-figure-requires c κs =
+    let w = c .before .before .before in
+    let s = w .before .before .before .before in
+    room-first (figure (s .args .v)) newLine (room-rest (s .args .word .now) (figure (s .args .v) ++ newLine) (s .pre) (w .put-bytes .ensures))
 
--- src/lines.rt:29:23
 slice-aggregate-put-bytes : tie.Need-slice-aggregate-put-bytes
-slice-aggregate-put-bytes c = search needs
+slice-aggregate-put-bytes c = refl
 
--- src/lines.rt:29:5
 put-bytes-requires-2 : tie.Need-put-bytes-requires-2
-put-bytes-requires-2 c κs = ?
+put-bytes-requires-2 c κs =
+    let f = c .before .before .before .before in
+    let w = f .before .before .before .before in
+    let s = w .before .before .before .before in
+    room-rest (figure (s .args .v)) newLine
+    (room-rest (s .args .word .now) (figure (s .args .v) ++ newLine) (s .pre) (w .put-bytes .ensures))
+    (f .put-figure .ensures)
 
--- src/lines.rt:23:1
 same-length : tie.Need-same-length
-same-length c = search needs
+same-length c =
+    let n = c .before .before in
+    let f = n .before .before .before .before .before in
+    n .put-bytes2 .kept .0 ∙ f .put-figure .kept .0 ∙ f .before .before .before .before .put-bytes .kept .0
 
--- src/lines.rt:23:1
 returns : tie.Need-returns
-returns c = ?
+returns c =
+    let n = c .before .before in
+    let f = n .before .before .before .before .before in
+    let w = f .before .before .before .before in
+    let s = w .before .before .before .before in
+    let rest = room-rest (s .args .word .now) (figure (s .args .v) ++ newLine) (s .pre) (w .put-bytes .ensures) in
+    both (s .args .word .now) (figure (s .args .v) ++ newLine) (s .pre) (w .put-bytes .ensures)
+    (both (figure (s .args .v)) newLine rest (f .put-figure .ensures) (n .put-bytes2 .ensures))
 
 pub put-line-spec : {M : Type 1} → statement M
 put-line-spec =

@@ -1,26 +1,30 @@
-use borrow.Author.Needs.{needs}
+-- `put_worded` meets its contract: the figure is written behind the word.
+use mathlib.Core.Path.{_∙_}
+use Rattle.text.specs.Text.{figure}
+use Rattle.text.proofs.Writing.{room-first, room-rest, both}
 use Rattle.text.proofs.lines.put_worded.Statement.{statement}
 use Rattle.text.proofs.lines.put_worded.Tie as tie
-use Rattle.text.proofs.lines.put_worded.Reads as reads
-use Rattle.text.proofs.lines.put_worded.Lts as lts
-use Rattle.text.proofs.buffer.put_bytes.Reads as put-bytes-reads
-use Rattle.text.proofs.buffer.put_figure.Reads as put-figure-reads
 
--- src/lines.rt:18:9
 put-bytes-requires : tie.Need-put-bytes-requires
-put-bytes-requires c κs = ?
+put-bytes-requires c κs =
+    let s = c .before .before .before in
+    room-first (s .args .word .now) (figure (s .args .v)) (s .pre)
 
--- src/lines.rt:19:5
 put-figure-requires : tie.Need-put-figure-requires
-put-figure-requires c κs = ?
+put-figure-requires c κs =
+    let w = c .before .before .before in
+    let s = w .before .before .before .before in
+    room-rest (s .args .word .now) (figure (s .args .v)) (s .pre) (w .put-bytes .ensures)
 
--- src/lines.rt:14:1
 same-length : tie.Need-same-length
-same-length c = search needs
+same-length c = let f = c .before .before in f .put-figure .kept .0 ∙ f .before .before .before .before .put-bytes .kept .0
 
--- src/lines.rt:14:1
 returns : tie.Need-returns
-returns c = ?
+returns c =
+    let f = c .before .before in
+    let w = f .before .before .before .before in
+    let s = w .before .before .before .before in
+    both (s .args .word .now) (figure (s .args .v)) (s .pre) (w .put-bytes .ensures) (f .put-figure .ensures)
 
 pub put-worded-spec : {M : Type 1} → statement M
 put-worded-spec = tie.close (tie.spec put-bytes-requires put-figure-requires same-length returns)

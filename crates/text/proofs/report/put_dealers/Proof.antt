@@ -1,0 +1,2 @@
+use Rattle.text.proofs.report.put_dealers.Statement.{statement}
+use Rattle.text.proofs.report.put_dealers.Tie as tie
