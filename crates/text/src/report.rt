@@ -22,7 +22,8 @@ fn put_dealers(out: &mut [u8], at: usize, n: u32, seats: [Seat; 31]) -> usize
     while i < n {
         let place = i as usize;
         let seat = seats[place];
-        next = put_dealer(out, next, i + 1, seat.verdict);
+        let v = seat.verdict;
+        next = put_dealer(out, next, i + 1, v);
         i += 1;
     }
     next
@@ -34,8 +35,9 @@ pub fn put_report(out: &mut [u8], rd: Round, judged: Judged) -> usize
     ensures { λ r. ⌜ Written 0 (reportFrom rd judged) (now (out .entry)) (now (out .exit)) r ⌝ }
 {
     let seats = judged.seats;
+    let draw = judged.draw;
     let a = put_round(out, 0, rd);
     let b = put_dealers(out, a, rd.n, seats);
     let c = put_line(out, b, b"accepted", judged.accepted);
-    put_draw(out, c, judged.draw)
+    put_draw(out, c, draw)
 }
