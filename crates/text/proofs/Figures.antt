@@ -1,11 +1,11 @@
 -- The digits of a figure: the last one behind the others, and how many there are.
 use mathlib.Core.Path.{_≡_, refl, sym, ap, _∙_}
-use mathlib.Core.Bool.{Bool}
+use mathlib.Core.Bool.{Bool, true, false}
 use mathlib.Core.List.{List, [], _∷_, _++_}
 use Prim.Native.Nat.{ℕ, zero, suc, _+_, _/_, _%_, _^_, _≤_, _<_}
 use native.Mathlib.Nat.{pow-suc}
 use native.Mathlib.Omega.{arith}
-use borrow.Author.Tests.{lt-ltb, le-ltb}
+use borrow.Author.Tests.{lt-ltb, le-ltb, ltb-true, ltb-false}
 use lib.ListN.{length, set, length-append}
 use lib.Dec.{ltb}
 use Rattle.words.specs.Choice.{pick}
@@ -74,3 +74,33 @@ module _ (k v : ℕ) (l : List ℕ) (room : Room k (figure v) l) where
   pub figure-written : {m : List ℕ} {r : ℕ} → Written (k + 1) (digits 10 v) (set l k 32) m r → Written k (figure v) l m r
   unfolding figure
   figure-written w = both (32 ∷ []) (digits 10 v) room (written-one k 32 l space-room) w
+
+-- ---- how many bytes
+digits-most : (k v : ℕ) → length (digits k v) ≤ k
+unfolding digits
+digits-most zero v = omega arith
+digits-most (suc k) v = go (ltb v 10) (digits-most k (v / 10))
+  where
+    go : (b : Bool) → length (digits k (v / 10)) ≤ k
+        → length (pick b ((48 + v) ∷ []) (digits k (v / 10) ++ ((48 + v % 10) ∷ []))) ≤ suc k
+    go true h = omega arith
+    go false h = omega (arith, length-append (digits k (v / 10)) ((48 + v % 10) ∷ []))
+
+pub figure-most : (v : ℕ) → length (figure v) ≤ 11
+unfolding figure
+figure-most v = omega (arith, digits-most 10 v)
+
+-- a number of two digits
+pub short-figure : (v : ℕ) → v < 100 → length (figure v) ≤ 3
+unfolding figure
+short-figure v h = go (ltb v 10) refl
+  where
+    go : (b : Bool) → ltb v 10 ≡ b → length (32 ∷ digits 10 v) ≤ 3
+    go true e = omega (arith, ap length (digits-one 9 v (ltb-true v 10 e)))
+    go false e =
+        let s : v / 10 < 10 = omega arith in
+        omega
+        (arith,
+        ap length (digits-last 9 v (ltb-false v 10 e)),
+        length-append (digits 9 (v / 10)) ((48 + v % 10) ∷ []),
+        ap length (digits-one 8 (v / 10) s))

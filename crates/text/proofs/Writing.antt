@@ -4,7 +4,7 @@ use mathlib.Core.List.{List, [], _∷_, _++_}
 use Prim.Native.Nat.{ℕ, suc, _+_, _≤_, _<_}
 use native.Mathlib.Numerals.{add-one}
 use native.Mathlib.Omega.{arith}
-use lib.ListN.{length, getD, take, set, length-append}
+use lib.ListN.{length, getD, take, drop, set, length-append}
 use lib.Seq.{length-take-le, take-suc, take-all, sets-eq}
 use Rattle.words.specs.Bytes.{putAt}
 use Rattle.words.proofs.Bytes.{put-length}
@@ -88,3 +88,10 @@ module _ (k : ℕ) (xs l : List ℕ) (room : Room k xs l) where
 
   pub all-bytes : (i : ℕ) {m : List ℕ} → length xs ≤ i → Written k (take i xs) l m (k + i) → Written k xs l m (k + i)
   all-bytes i h w = rw (take-all i xs h) at w
+
+-- ---- at the start of a buffer
+pub at-start : (bs l m : List ℕ) (r : ℕ) → Written 0 bs l m r → (r ≡ length bs) × (m ≡ bs ++ drop r l)
+unfolding putAt
+at-start bs l m r w =
+    let e : r ≡ length bs = omega (arith, w .behind) in
+    (e, w .bytes ∙ ap (λ (x : ℕ). bs ++ drop x l) (let z : 0 + length bs ≡ r = omega arith in z))

@@ -10,6 +10,7 @@ use Rattle.words.specs.Bytes.{recordIn}
 use Rattle.words.specs.declared.Record.{Record}
 use Rattle.group.specs.declared.Element.{Element}
 use Rattle.sharing.specs.declared.Round.{Round}
+use Rattle.posted.specs.Records.{isSpare}
 use Rattle.board.specs.Board.{boardChecks}
 use Rattle.verdicts.specs.Verdict.{Judges, verdictsOn}
 use Rattle.verdicts.specs.Draw.{countAccepted, drawOn}
@@ -103,7 +104,7 @@ boardText J R b = pick (eqb (refusal (boardChecks R b)) 0) (report J R b) (refus
 
 -- ---- round.set: one record, 9, group, n, t, zeros
 unfoldable pub isSetRecord : Record → Bool
-isSetRecord r = eqb (r .w0) 9 && (eqb (r .w4) 0 && (eqb (r .w5) 0 && (eqb (r .w6) 0 && eqb (r .w7) 0)))
+isSetRecord r = eqb (r .w0) 9 && isSpare r
 
 abbrev pub setChecks : List ℕ → List Check
 setChecks s = 3 unless eqb (length s) 32 ∷ 4 unless isSetRecord (recordIn s) ∷ []
