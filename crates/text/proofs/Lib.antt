@@ -4,3 +4,4 @@ pub mod Figures
 pub mod Dealers
 pub mod Reports
 pub mod Lengths
+pub mod Example
