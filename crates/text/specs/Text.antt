@@ -10,15 +10,17 @@ use Rattle.words.specs.Bytes.{recordIn}
 use Rattle.words.specs.declared.Record.{Record}
 use Rattle.group.specs.declared.Element.{Element}
 use Rattle.sharing.specs.declared.Round.{Round}
+use Rattle.posted.specs.Records.{isSpare}
 use Rattle.board.specs.Board.{boardChecks}
 use Rattle.verdicts.specs.Verdict.{Judges, verdictsOn}
 use Rattle.verdicts.specs.Draw.{countAccepted, drawOn}
+use Rattle.verdicts.specs.declared.Secret.{Secret}
 use Rattle.verdicts.specs.declared.Secret.the-variants.{Opened, Recovered, Stuck}
 use Rattle.verdicts.specs.declared.Verdict.{Verdict}
 use Rattle.verdicts.specs.declared.Verdict.the-variants.{None, Refused, Accepted}
 
 -- the decimal digits of v, which is below 10 to the power k
-abbrev pub digits : ℕ → ℕ → List ℕ
+unfoldable pub digits : ℕ → ℕ → List ℕ
 digits zero v = []
 digits (suc k) v = pick (ltb v 10) ((48 + v) ∷ []) (digits k (v / 10) ++ ((48 + v % 10) ∷ []))
 
@@ -61,15 +63,19 @@ stuckWord = 115 ∷ 116 ∷ 117 ∷ 99 ∷ 107 ∷ []
 unfoldable pub refusedLine : ℕ → List ℕ
 refusedLine k = refusedWord ++ (figure k ++ newLine)
 
+-- how the secret of an accepted dealing came, and its value
+abbrev pub secretText : Secret → List ℕ
+secretText (Opened v) = openedWord ++ figure (v .0)
+secretText (Recovered v) = recoveredWord ++ figure (v .0)
+secretText Stuck = stuckWord
+
 abbrev pub verdictText : Verdict → List ℕ
 verdictText None = noneWord
 verdictText (Refused k) = refusedWord ++ figure k
-verdictText (Accepted (Opened v)) = openedWord ++ figure (v .0)
-verdictText (Accepted (Recovered v)) = recoveredWord ++ figure (v .0)
-verdictText (Accepted Stuck) = stuckWord
+verdictText (Accepted s) = secretText s
 
 unfoldable pub dealerLine : ℕ → Verdict → List ℕ
-dealerLine d v = dealerWord ++ (figure d ++ (32 ∷ (verdictText v ++ newLine)))
+dealerLine d v = (dealerWord ++ figure d) ++ ((32 ∷ []) ++ (verdictText v ++ newLine))
 
 -- the lines of the dealers from d on
 abbrev pub dealerLines : ℕ → List Verdict → List ℕ
@@ -81,7 +87,7 @@ drawLine (value v) = drawWord ++ (figure (v .0) ++ newLine)
 drawLine (refused k) = refusedLine k
 
 unfoldable pub roundLine : Round → List ℕ
-roundLine R = roundWord ++ (figure (R .group) ++ (figure (R .n) ++ (figure (R .t) ++ newLine)))
+roundLine R = (roundWord ++ figure (R .group)) ++ (figure (R .n) ++ (figure (R .t) ++ newLine))
 
 unfoldable pub acceptedLine : ℕ → List ℕ
 acceptedLine m = acceptedWord ++ (figure m ++ newLine)
@@ -98,7 +104,7 @@ boardText J R b = pick (eqb (refusal (boardChecks R b)) 0) (report J R b) (refus
 
 -- ---- round.set: one record, 9, group, n, t, zeros
 unfoldable pub isSetRecord : Record → Bool
-isSetRecord r = eqb (r .w0) 9 && (eqb (r .w4) 0 && (eqb (r .w5) 0 && (eqb (r .w6) 0 && eqb (r .w7) 0)))
+isSetRecord r = eqb (r .w0) 9 && isSpare r
 
 abbrev pub setChecks : List ℕ → List Check
 setChecks s = 3 unless eqb (length s) 32 ∷ 4 unless isSetRecord (recordIn s) ∷ []

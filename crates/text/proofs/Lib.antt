@@ -1,0 +1,7 @@
+-- Laws of text written into a buffer, of figures, of the lines, and the proofs of what specs/Claims.antt states.
+pub mod Writing
+pub mod Figures
+pub mod Dealers
+pub mod Reports
+pub mod Lengths
+pub mod Example

@@ -1,0 +1,95 @@
+-- `put_report` meets its contract: the four parts are written one behind the other.
+use mathlib.Core.Path.{refl, _∙_}
+use mathlib.Core.List.{List, _++_}
+use Prim.Native.Nat.{ℕ}
+use Rattle.group.specs.Answer.{elementOutcomeOf}
+use Rattle.sharing.specs.declared.Round.{Round}
+use Rattle.verdicts.specs.declared.Judged.{Judged}
+use Rattle.text.specs.Text.{dealerLines, drawLine, roundLine, acceptedLine}
+use Rattle.text.specs.Report.{verdictsAt, reportFrom}
+use Rattle.text.proofs.Writing.{first-room, second-room, third-room, fourth-room, all-four}
+use Rattle.text.proofs.report.put_report.Statement.{statement}
+use Rattle.text.proofs.report.put_report.Tie as tie
+
+-- the lines of the dealers, and the last line
+abbrev dealers : Round → Judged → List ℕ
+dealers R A = dealerLines 1 (verdictsAt (R .n) (A .seats))
+
+abbrev last : Judged → List ℕ
+last A = drawLine (elementOutcomeOf (A .draw))
+
+put-round-requires : tie.Need-put-round-requires
+unfolding reportFrom
+put-round-requires c κs =
+    let s = c .before .before .before in
+    let R = s .args .rd in
+    let A = s .args .judged in
+    first-room (roundLine R) (dealers R A) (acceptedLine (A .accepted)) (last A) (s .pre .1)
+
+put-dealers-requires : tie.Need-put-dealers-requires
+unfolding reportFrom
+put-dealers-requires c κs =
+    let u = c .before .before .before in
+    let s = u .before .before .before .before in
+    let R = s .args .rd in
+    let A = s .args .judged in
+    (s .pre .0, second-room (roundLine R) (dealers R A) (acceptedLine (A .accepted)) (last A) (s .pre .1) (u .put-round .ensures))
+
+slice-aggregate-put-line : tie.Need-slice-aggregate-put-line
+slice-aggregate-put-line c = refl
+
+put-line-requires : tie.Need-put-line-requires
+unfolding reportFrom acceptedLine
+put-line-requires c κs =
+    let v = c .before .before .before .before in
+    let u = v .before .before .before .before in
+    let s = u .before .before .before .before in
+    let R = s .args .rd in
+    let A = s .args .judged in
+    third-room (roundLine R) (dealers R A) (acceptedLine (A .accepted)) (last A) (s .pre .1) (u .put-round .ensures) (v .put-dealers .ensures)
+
+put-draw-requires : tie.Need-put-draw-requires
+unfolding reportFrom acceptedLine
+put-draw-requires c κs =
+    let w = c .before .before .before in
+    let v = w .before .before .before .before .before in
+    let u = v .before .before .before .before in
+    let s = u .before .before .before .before in
+    let R = s .args .rd in
+    let A = s .args .judged in
+    fourth-room (roundLine R) (dealers R A) (acceptedLine (A .accepted)) (last A) (s .pre .1) (u .put-round .ensures) (v .put-dealers .ensures)
+    (w .put-line .ensures)
+
+same-length : tie.Need-same-length
+same-length c =
+    let x = c .before .before in
+    let w = x .before .before .before .before in
+    let v = w .before .before .before .before .before in
+    let u = v .before .before .before .before in
+    x .put-draw .kept .0 ∙ w .put-line .kept .0 ∙ v .put-dealers .kept .0 ∙ u .put-round .kept .0
+
+returns : tie.Need-returns
+unfolding reportFrom acceptedLine
+returns c =
+    let x = c .before .before in
+    let w = x .before .before .before .before in
+    let v = w .before .before .before .before .before in
+    let u = v .before .before .before .before in
+    let s = u .before .before .before .before in
+    let R = s .args .rd in
+    let A = s .args .judged in
+    all-four (roundLine R) (dealers R A) (acceptedLine (A .accepted)) (last A) (s .pre .1) (u .put-round .ensures) (v .put-dealers .ensures)
+    (w .put-line .ensures)
+    (x .put-draw .ensures)
+
+pub put-report-spec : {M : Type 1} → statement M
+put-report-spec =
+    tie.close
+    (tie.spec
+    put-round-requires
+    put-dealers-requires
+    slice-aggregate-put-line
+    put-line-requires
+    put-draw-requires
+    same-length
+    returns)
