@@ -8,8 +8,8 @@ use borrow.Author.Tests.{ltb-true}
 use lib.Dec.{ltb}
 use Rattle.words.proofs.Tests.{equal-true, true-equal, all-map}
 use Rattle.sharing.specs.Round.{groupIn, members}
-use Rattle.dealing.specs.Records.{recordAt, isKey}
-use Rattle.dealing.proofs.Members.{members-exactly}
+use Rattle.posted.specs.Records.{recordAt, isKey}
+use Rattle.posted.proofs.Members.{members-exactly}
 use Rattle.board.specs.Search.{recordsIn}
 use Rattle.board.specs.Board.{isKeyOf, keyRecord, keyIn}
 use Rattle.board.specs.Claims.{KeysExact}

@@ -1,13 +1,8 @@
--- Proofs of what specs/Claims.antt and specs/Demand3.antt state, and the laws that the code's proofs share.
+-- Proofs of what specs/Claims.antt states, and the laws that the code's proofs share.
 pub mod Searches
 pub mod Order
 pub mod KeyRecords
 pub mod LineRun
-pub mod Sources
-pub mod VerdictCases
-pub mod Endings
-pub mod TwoBoards
-pub mod Demand3
 pub mod Matches
 pub mod Steps
 pub mod Numbers

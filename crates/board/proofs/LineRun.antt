@@ -17,7 +17,7 @@ use Rattle.words.proofs.Lists.{part-part}
 use Rattle.words.proofs.Tests.{false-true, equal-true, true-equal}
 use Rattle.sharing.specs.declared.Round.{Round}
 use Rattle.sharing.proofs.Rounds.{ready}
-use Rattle.dealing.specs.Records.{recordAt}
+use Rattle.posted.specs.Records.{recordAt}
 use Rattle.board.specs.Search.{recordsIn}
 use Rattle.board.specs.Board.{isLineBy, linesStart, linesEnd, lineCount, linesOf}
 use Rattle.board.specs.Claims.{ExactLines, LinesExact}

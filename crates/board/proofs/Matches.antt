@@ -9,8 +9,8 @@ use lib.ListN.{getD}
 use lib.Dec.{eqb}
 use Rattle.words.specs.Choice.{pick}
 use Rattle.words.specs.Bytes.{wordAt, recordWords}
-use Rattle.dealing.specs.Records.{recordAt}
-use Rattle.dealing.proofs.Columns.{word-of}
+use Rattle.posted.specs.Records.{recordAt}
+use Rattle.posted.proofs.Columns.{word-of}
 use Rattle.board.specs.Board.{isMatch}
 
 module _ (b : List ℕ) (i : ℕ) where

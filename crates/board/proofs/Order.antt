@@ -19,8 +19,8 @@ use Rattle.words.proofs.Tests.{false-true, and-true, pick-false}
 use Rattle.sharing.specs.Round.{groupIn, roundChecks, isMember, members}
 use Rattle.sharing.specs.declared.Round.{Round}
 use Rattle.sharing.proofs.Rounds.{ready}
-use Rattle.dealing.specs.Records.{isKeyRecord, isLineRecord, isOpeningRecord, isShareRecord, recordAt, isKey}
-use Rattle.dealing.proofs.Members.{member-exactly}
+use Rattle.posted.specs.Records.{isKeyRecord, isLineRecord, isOpeningRecord, isShareRecord, recordAt, isKey}
+use Rattle.posted.proofs.Members.{member-exactly}
 use Rattle.board.specs.Search.{first, recordsIn}
 use Rattle.board.specs.Board.{isShaped, isAbove, recordChecks, formChecks, keyRecord, keysIn, keyChecks, boardChecks}
 use Rattle.board.proofs.Searches.{first-is, first-low}

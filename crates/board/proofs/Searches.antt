@@ -12,8 +12,7 @@ use Rattle.words.specs.Choice.{pick}
 use Rattle.words.specs.Lists.{All, Distinct, map, upFrom}
 use Rattle.words.proofs.Lists.{All-to, All-take, map-all, up-within}
 use Rattle.words.proofs.Tests.{false-true}
-use Rattle.board.specs.Search.{first, filter}
-use Rattle.board.specs.Claims.{Ascending}
+use Rattle.board.specs.Search.{first, filter, Ascending}
 
 -- ---- where a search of the m numbers from i on ends
 pub record First (f : ℕ → Bool) (i m r : ℕ) : Type 0 where

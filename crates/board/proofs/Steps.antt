@@ -10,7 +10,7 @@ use Rattle.words.specs.Choice.{pick}
 use Rattle.words.specs.Checks.{refusal}
 use Rattle.words.specs.declared.Record.{Record}
 use Rattle.words.proofs.Tests.{pick-true, pick-false}
-use Rattle.dealing.specs.Records.{recordAt}
+use Rattle.posted.specs.Records.{recordAt}
 use Rattle.board.specs.Search.{first}
 use Rattle.board.specs.Board.{isShaped, isAbove, recordChecks}
 

@@ -11,7 +11,7 @@ use Rattle.words.specs.Bytes.{recordWords}
 use Rattle.words.specs.declared.Record.{Record}
 use Rattle.sharing.specs.Round.{groupIn, roundChecks, isMember, members}
 use Rattle.sharing.specs.declared.Round.{Round}
-use Rattle.dealing.specs.Records.{isKeyRecord, isLineRecord, isOpeningRecord, isShareRecord, recordAt, isKey}
+use Rattle.posted.specs.Records.{isKeyRecord, isLineRecord, isOpeningRecord, isShareRecord, recordAt, isKey}
 use Rattle.board.specs.Search.{first, recordsIn}
 
 -- ---- form and order

@@ -1,8 +1,4 @@
--- What a board is, what is refused before verdicts, the verdicts, the draw and its text, and what is claimed of them.
+-- What a board is, what is refused before verdicts, and what is claimed of its keys and lines.
 pub mod Search
 pub mod Board
-pub mod Verdict
-pub mod Draw
-pub mod Text
 pub mod Claims
-pub mod Demand3

@@ -1,9 +1,10 @@
 -- Searches over the records of a board.
 use mathlib.Core.Bool.{Bool}
 use mathlib.Core.List.{List, [], _∷_}
-use Prim.Native.Nat.{ℕ, zero, suc, _/_}
+use Prim.Native.Nat.{ℕ, zero, suc, _<_, _/_}
 use lib.ListN.{length}
 use Rattle.words.specs.Choice.{pick}
+use Rattle.words.specs.Lists.{All}
 
 -- the first of m numbers from i on that passes the test, i + m where there is none
 abbrev pub first : (ℕ → Bool) → ℕ → ℕ → ℕ
@@ -14,6 +15,11 @@ first f i (suc m) = pick (f i) i (first f (suc i) m)
 abbrev pub filter : (ℕ → Bool) → List ℕ → List ℕ
 filter f [] = []
 filter f (x ∷ xs) = pick (f x) (x ∷ filter f xs) (filter f xs)
+
+-- each number is below all that follow it
+abbrev pub Ascending : List ℕ → Type 0
+Ascending [] = Unit {0}
+Ascending (x ∷ xs) = All (λ y. x < y) xs × Ascending xs
 
 -- the number of records
 abbrev pub recordsIn : List ℕ → ℕ

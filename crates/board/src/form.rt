@@ -4,11 +4,11 @@ ghost use Rattle.words.specs.Checks.{refusal};
 ghost use Rattle.board.specs.Search.{recordsIn};
 ghost use Rattle.board.specs.Board.{isShaped, isAbove, recordChecks, formChecks};
 use crate::search::records;
-use dealing::is_key_record;
-use dealing::is_line_record;
-use dealing::is_opening_record;
-use dealing::is_share_record;
-use dealing::record_at;
+use posted::is_key_record;
+use posted::is_line_record;
+use posted::is_opening_record;
+use posted::is_share_record;
+use posted::record_at;
 use sharing::is_member;
 use words::Record;
 

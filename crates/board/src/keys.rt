@@ -10,9 +10,9 @@ ghost use Rattle.board.specs.Board.{hasKey, keysIn, keyChecks, boardChec
 use crate::form::form_refusal;
 use crate::search::find_key;
 use crate::search::records;
-use dealing::all_keys;
 use group::Group;
 use group::GroupAnswer;
+use posted::all_keys;
 use sharing::Round;
 use sharing::round_group;
 
@@ -32,7 +32,7 @@ fn has_keys(b: &[u8], n: u32) -> bool
 
 // The members' keys: the first n of an array.
 // Internal: callers ensure that there are at most 31 members and that each has a key record.
-pub fn keys(b: &[u8], n: u32) -> [u32; 31]
+pub fn board_keys(b: &[u8], n: u32) -> [u32; 31]
     requires { ⌜ (n ≤ 31) × (all (hasKey (now b)) (members n) ≡ true) ⌝ }
     ensures { λ r. ⌜ take n r ≡ keysIn n (now (b .entry)) ⌝ }
 {
@@ -56,7 +56,7 @@ fn keys_refusal(gr: Group, rd: Round, b: &[u8]) -> u32
         return 12;
     }
     let n = rd.n as usize;
-    if !all_keys(gr, &keys(b, rd.n)[0..n]) {
+    if !all_keys(gr, &board_keys(b, rd.n)[0..n]) {
         return 6;
     }
     0

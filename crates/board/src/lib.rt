@@ -1,40 +1,14 @@
-// The board: its shape, a dealer's lines, verdicts, the draw value and the text that reports them.
+// The board before verdicts: its form, its keys, a dealer's lines and opening.
 mod form;
 mod keys;
 mod lines;
 mod search;
 
-use group::Element;
+pub use keys::board_keys;
+pub use keys::board_refusal;
 pub use lines::dealer_lines;
 pub use lines::lines_check;
-
-// How the secret of an accepted dealing came.
-pub enum Secret {
-    Opened(Element),
-    Recovered(Element),
-    Stuck,
-}
-
-pub enum Verdict {
-    None,
-    Refused(u32),
-    Accepted(Secret),
-}
-
-// A dealer's verdict, as an array holds it.
-pub struct Seat {
-    pub verdict: Verdict,
-}
-
-// The beacon's output, or the number of the refusal.
-pub enum Draw {
-    Value(Element),
-    Refused(u32),
-}
-
-// Every dealer's verdict (dealer d at d - 1, those above n None), the count of accepted dealings, and the draw.
-pub struct Judged {
-    pub seats: [Seat; 31],
-    pub accepted: u32,
-    pub draw: Draw,
-}
+pub use lines::lines_of;
+pub use search::find_key;
+pub use search::find_opening;
+pub use search::records;

@@ -9,11 +9,11 @@ use Rattle.words.proofs.Lists.{All-each, map-length, map-at, map-same, up-lengt
 use Rattle.sharing.specs.Round.{members}
 use Rattle.sharing.specs.declared.Round.{Round}
 use Rattle.sharing.proofs.Loops.{member-at}
-use Rattle.dealing.specs.Records.{entry}
-use Rattle.dealing.specs.Message.{message, challengeOf, dealingMessage, coefficientMessage, checkPolynomial}
-use Rattle.dealing.proofs.Filled.{filled-next}
-use Rattle.dealing.proofs.Members.{each-members}
-use Rattle.dealing.proofs.Challenges.{bytes-same, message-same}
+use Rattle.posted.specs.Records.{entry}
+use Rattle.posted.specs.Message.{message, challengeOf, dealingMessage, coefficientMessage, checkPolynomial}
+use Rattle.posted.proofs.Filled.{filled-next}
+use Rattle.posted.proofs.Members.{each-members}
+use Rattle.posted.proofs.Challenges.{bytes-same, message-same}
 
 -- ---- members by index, from 0
 module _ (n k : ℕ) (h : k < n) where

@@ -6,7 +6,7 @@ use Prim.Native.Nat.{ℕ}
 use Rattle.words.specs.Lists.{map, all}
 use Rattle.words.proofs.Tests.{all-map}
 use Rattle.sharing.specs.Round.{members}
-use Rattle.dealing.proofs.Stages.{passed, failed}
+use Rattle.posted.proofs.Stages.{passed, failed}
 
 all-both : {A : Type 0} (f g : A → Bool) (xs : List A) → all f xs && all g xs ≡ all (λ x. f x && g x) xs
 all-both f g [] = refl

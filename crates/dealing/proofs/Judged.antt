@@ -19,12 +19,12 @@ use Rattle.sharing.specs.Carried.{Commitments}
 use Rattle.sharing.specs.declared.Round.{Round}
 use Rattle.sharing.proofs.Degree.{product-passes}
 use Rattle.sharing.proofs.Theorems.{uncarried-one-value}
-use Rattle.dealing.specs.Records.{isLineRecord, recordOf, isKey}
-use Rattle.dealing.specs.Message.{checkPolynomial}
+use Rattle.posted.specs.Records.{isLineRecord, recordOf, isKey}
+use Rattle.posted.specs.Message.{checkPolynomial}
 use Rattle.dealing.specs.Dealing.{judgeDealingChecks, judgeDealingOutcome, vIn, YIn, rIn, cIn, vsIn, isLineOf, recomputed}
 use Rattle.dealing.specs.Claims.{Line, PostedDealing, AcceptedDealing, DealingExactly, EquationRefused, DealingRefused, AcceptedPasses, AcceptedUncarried}
-use Rattle.dealing.proofs.Members.{each-members, members-exactly, members-false, member-exactly}
-use Rattle.dealing.proofs.Challenges.{check-polynomial}
+use Rattle.posted.proofs.Members.{each-members, members-exactly, members-false, member-exactly}
+use Rattle.posted.proofs.Challenges.{check-polynomial}
 
 module _ (R : Round) (d : ℕ) (ys b : List ℕ) where
   -- ---- the tests of the line of member i

@@ -10,7 +10,7 @@ use Rattle.words.specs.Bytes.{putAt, recordBytes}
 use Rattle.words.specs.declared.Record.{Record}
 use Rattle.words.proofs.Lists.{drop-next}
 use Rattle.words.proofs.Bytes.{record-length, put-back, put-take}
-use Rattle.dealing.specs.Records.{recordsBytes}
+use Rattle.posted.specs.Records.{recordsBytes}
 
 module _ (f : ℕ → Record) (is : List ℕ) (k : ℕ) (out : List ℕ) where
   abbrev left : List ℕ

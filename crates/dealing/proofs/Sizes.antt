@@ -17,7 +17,7 @@ use Rattle.sharing.specs.Round.{groupIn, roundChecks, isMember}
 use Rattle.sharing.specs.declared.Round.{Round}
 use Rattle.sharing.proofs.Rounds.{ready}
 use Rattle.dealing.specs.Dealing.{writeDealingChecks, judgeDealingChecks}
-use Rattle.dealing.proofs.Members.{member-exactly}
+use Rattle.posted.proofs.Members.{member-exactly}
 
 -- ---- the group of a round
 module _ (R : Round) {G : Group} (e : G ≡ groupIn R) where

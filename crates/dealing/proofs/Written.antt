@@ -26,15 +26,15 @@ use Rattle.sharing.specs.declared.Round.{Round}
 use Rattle.sharing.proofs.Rounds.{ready}
 use Rattle.sharing.proofs.Degree.{passes-product}
 use Rattle.sharing.proofs.Theorems.{carried-passes}
-use Rattle.dealing.specs.Records.{isLineRecord, entry, recordOf, isKey}
-use Rattle.dealing.specs.Message.{challengeOf, checkPolynomial}
-use Rattle.dealing.specs.Equality.{announced}
+use Rattle.posted.specs.Records.{isLineRecord, entry, recordOf, isKey}
+use Rattle.posted.specs.Message.{challengeOf, checkPolynomial}
+use Rattle.equality.specs.Equality.{announced}
 use Rattle.dealing.specs.Dealing.{dealtV, dealtY, dealtC, dealtR, dealtLine, writtenDealing, writeDealingChecks, writeDealingOutcome, judgeDealingOutcome, vIn, YIn, rIn, cIn, vsIn, recomputed}
 use Rattle.dealing.specs.Claims.{Line, DegreeEquation, AcceptedDealing, DealingComplete, WrittenCarried, LentDealing, LentDealingKept}
-use Rattle.dealing.proofs.Members.{each-members, member-exactly, key-element, entry-all}
-use Rattle.dealing.proofs.Posted.{member-word, element-word, exponent-word, records-length, record-back}
-use Rattle.dealing.proofs.Challenges.{challenge-low, check-polynomial, message-same}
-use Rattle.dealing.proofs.Equal.{response-low, announced-back}
+use Rattle.posted.proofs.Members.{each-members, member-exactly, key-element, entry-all}
+use Rattle.posted.proofs.Posted.{member-word, element-word, exponent-word, records-length, record-back}
+use Rattle.posted.proofs.Challenges.{challenge-low, check-polynomial, message-same}
+use Rattle.equality.proofs.Equal.{response-low, announced-back}
 use Rattle.dealing.proofs.Judged.{accepts-dealing}
 
 -- what the writer asks of round, dealer, keys and polynomial; of the nonces nothing is used

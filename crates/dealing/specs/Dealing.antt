@@ -14,9 +14,9 @@ use Rattle.group.specs.declared.Group.{Group}
 use Rattle.sharing.specs.Round.{groupIn, roundChecks, isMember, members}
 use Rattle.sharing.specs.Answer.{degreeProduct}
 use Rattle.sharing.specs.declared.Round.{Round}
-use Rattle.dealing.specs.Records.{isLineRecord, entry, recordOf, recordsBytes, isKey}
-use Rattle.dealing.specs.Message.{challengeOf, dealingMessage, checkPolynomial}
-use Rattle.dealing.specs.Equality.{announced, response}
+use Rattle.posted.specs.Records.{isLineRecord, entry, recordOf, recordsBytes, isKey}
+use Rattle.posted.specs.Message.{challengeOf, dealingMessage, checkPolynomial}
+use Rattle.equality.specs.Equality.{announced, response}
 
 -- ---- written: from the keys ys, the polynomial cs and the nonces ws
 unfoldable pub dealtV : Group → List ℕ → ℕ → ℕ

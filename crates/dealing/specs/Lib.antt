@@ -1,7 +1,3 @@
--- What dealings and opened shares are, as they are written and as they are judged, and what is claimed of them.
-pub mod Records
-pub mod Message
-pub mod Equality
+-- What a dealing is, as it is written and as it is judged, and what is claimed of it.
 pub mod Dealing
-pub mod Share
 pub mod Claims

@@ -15,7 +15,7 @@ pub fn run(case: Record, space: &[u8]) -> bool {
     }
     print::element(
         b"judge_share ",
-        dealing::judge_share(rd, case.w4, case.w5, y, e, &space[8..end]),
+        opened::judge_share(rd, case.w4, case.w5, y, e, &space[8..end]),
     );
     true
 }

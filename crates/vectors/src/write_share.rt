@@ -16,7 +16,7 @@ pub fn run(case: Record, space: &mut [u8]) -> bool {
     if space.len() < size {
         return false;
     }
-    let answer = dealing::write_share(rd, case.w4, case.w5, e, x, w, &mut space[0..size]);
+    let answer = opened::write_share(rd, case.w4, case.w5, e, x, w, &mut space[0..size]);
     print::written(b"write_share ", answer, space, size);
     true
 }

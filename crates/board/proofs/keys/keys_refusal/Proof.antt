@@ -11,7 +11,7 @@ use Rattle.words.specs.Lists.{all}
 use Rattle.group.specs.declared.Group.{Group}
 use Rattle.sharing.specs.Round.{groupIn}
 use Rattle.sharing.specs.declared.Round.{Round}
-use Rattle.dealing.specs.Records.{isKey}
+use Rattle.posted.specs.Records.{isKey}
 use Rattle.board.specs.Board.{keysIn}
 use Rattle.board.proofs.keys.keys_refusal.Statement.{statement}
 use Rattle.board.proofs.keys.keys_refusal.Tie as tie
@@ -31,8 +31,8 @@ returns c = simp (← c .before .has-keys .ensures, not-true (c .before .has-key
 cast-n : tie.Need-cast-n
 cast-n c = search needs
 
-keys-requires : tie.Need-keys-requires
-keys-requires c κs =
+board-keys-requires : tie.Need-board-keys-requires
+board-keys-requires c κs =
     let h = c .before .before in
     (h .before .before .pre .1, sym (h .has-keys .ensures) ∙ not-false _ (c .before .if1 .left))
 
@@ -53,7 +53,7 @@ returns-2 c =
     let k = c .before .before .before .before in
     let h = k .before .before .before in
     let a = h .before .before .args in
-    let e = keys-tested (a .rd) (a .b .now) (k .keys .result) (h .before .before .pre .0) (k .keys .ensures) (c .before .all-keys .ensures) in
+    let e = keys-tested (a .rd) (a .b .now) (k .board-keys .result) (h .before .before .pre .0) (k .board-keys .ensures) (c .before .all-keys .ensures) in
     simp (← h .has-keys .ensures, not-false (h .has-keys .result) (k .before .before .if1 .left), e, not-true (c .before .all-keys .result) (c .if2 .taken))
 
 returns-3 : tie.Need-returns-3
@@ -61,7 +61,7 @@ returns-3 c =
     let k = c .before .before .before .before in
     let h = k .before .before .before in
     let a = h .before .before .args in
-    let e = keys-tested (a .rd) (a .b .now) (k .keys .result) (h .before .before .pre .0) (k .keys .ensures) (c .before .all-keys .ensures) in
+    let e = keys-tested (a .rd) (a .b .now) (k .board-keys .result) (h .before .before .pre .0) (k .board-keys .ensures) (c .before .all-keys .ensures) in
     simp (← h .has-keys .ensures, not-false (h .has-keys .result) (k .before .before .if1 .left), e, not-false (c .before .all-keys .result) (c .if2 .left))
 
 pub keys-refusal-spec : {M : Type 1} → statement M
@@ -71,7 +71,7 @@ keys-refusal-spec =
     has-keys-requires
     returns
     cast-n
-    keys-requires
+    board-keys-requires
     sub-all-keys
     part-all-keys-start
     part-all-keys-end

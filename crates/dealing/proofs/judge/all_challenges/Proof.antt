@@ -14,7 +14,7 @@ use Rattle.words.specs.Lists.{all}
 use Rattle.group.specs.declared.Exponent.{Exponent}
 use Rattle.sharing.specs.Round.{members}
 use Rattle.dealing.specs.Dealing.{cIn}
-use Rattle.dealing.specs.Records.{recordAt}
+use Rattle.posted.specs.Records.{recordAt}
 use Rattle.dealing.proofs.Entries.{index-within, number-at}
 use Rattle.dealing.proofs.judge.all_challenges.Statement.{statement}
 use Rattle.dealing.proofs.judge.all_challenges.Tie as tie

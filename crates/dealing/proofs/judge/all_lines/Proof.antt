@@ -10,7 +10,7 @@ use Rattle.words.specs.Lists.{all}
 use Rattle.sharing.specs.Round.{members}
 use Rattle.dealing.specs.Dealing.{isLineOf}
 use Rattle.dealing.proofs.Entries.{index-within, number-at}
-use Rattle.dealing.proofs.Stages.{passed, failed}
+use Rattle.posted.proofs.Stages.{passed, failed}
 use Rattle.dealing.proofs.judge.all_lines.Statement.{statement}
 use Rattle.dealing.proofs.judge.all_lines.Tie as tie
 

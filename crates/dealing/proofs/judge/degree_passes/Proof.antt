@@ -8,7 +8,7 @@ use lib.ListN.{length}
 use Rattle.sharing.proofs.Rounds.{ready}
 use Rattle.sharing.specs.Answer.{degreeProduct}
 use Rattle.dealing.specs.Dealing.{vIn, YIn, vsIn}
-use Rattle.dealing.proofs.Challenges.{check-polynomial}
+use Rattle.posted.proofs.Challenges.{check-polynomial}
 use Rattle.dealing.proofs.Entries.{figures-length, polynomial-same}
 use Rattle.dealing.proofs.Sizes.{group-proper, members-few}
 use Rattle.dealing.proofs.judge.degree_passes.Statement.{statement}

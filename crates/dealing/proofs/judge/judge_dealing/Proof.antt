@@ -6,7 +6,7 @@ use lib.ListN.{take, drop}
 use Rattle.words.proofs.Checks.{value-exactly, refused-exactly}
 use Rattle.words.specs.Checks.{Check, Met}
 use Rattle.dealing.specs.Dealing.{judgeDealingChecks, judgeDealingOutcome}
-use Rattle.dealing.proofs.Stages.{stage-first, stage-met, both-met, first-front, first-back, round-first, group-is, later-first, later-met}
+use Rattle.posted.proofs.Stages.{stage-first, stage-met, both-met, first-front, first-back, round-first, group-is, later-first, later-met}
 use Rattle.dealing.proofs.judge.judge_dealing.Statement.{statement}
 use Rattle.dealing.proofs.judge.judge_dealing.Tie as tie
 

@@ -10,9 +10,9 @@ use Rattle.group.specs.Element.{Proper}
 use Rattle.group.specs.declared.Group.{Group}
 use Rattle.sharing.proofs.Rounds.{ready}
 use Rattle.dealing.specs.Dealing.{vIn, YIn, rIn, cIn, recomputed}
-use Rattle.dealing.specs.Equality.{announced}
-use Rattle.dealing.specs.Message.{challengeOf, dealingMessage}
-use Rattle.dealing.specs.Records.{entry, recordAt}
+use Rattle.equality.specs.Equality.{announced}
+use Rattle.posted.specs.Message.{challengeOf, dealingMessage}
+use Rattle.posted.specs.Records.{entry, recordAt}
 use Rattle.dealing.proofs.Entries.{figures-length, HoldsFirst, holds-none, holds-next, holds-all, dealing-same}
 use Rattle.dealing.proofs.Sizes.{group-proper}
 use Rattle.dealing.proofs.judge.recomputed.Statement.{statement}

@@ -12,8 +12,8 @@ use Rattle.group.specs.Power.{pow}
 use Rattle.group.specs.declared.Group.{Group}
 use Rattle.sharing.proofs.Rounds.{ready}
 use Rattle.dealing.specs.Dealing.{dealtV, dealtY, dealtC}
-use Rattle.dealing.specs.Message.{challengeOf, dealingMessage}
-use Rattle.dealing.specs.Records.{entry}
+use Rattle.posted.specs.Message.{challengeOf, dealingMessage}
+use Rattle.posted.specs.Records.{entry}
 use Rattle.dealing.proofs.Entries.{figures-length, HoldsFirst, holds-none, holds-next, holds-all, dealing-same}
 use Rattle.dealing.proofs.Sizes.{group-proper}
 use Rattle.dealing.proofs.writer.dealt_challenge.Statement.{statement}

@@ -7,8 +7,8 @@ use lib.ListN.{getD}
 use Rattle.words.proofs.Lists.{All-at}
 use Rattle.group.specs.Power.{pow}
 use Rattle.dealing.specs.Dealing.{dealtV, dealtY, dealtR, dealtLine}
-use Rattle.dealing.specs.Equality.{response}
-use Rattle.dealing.specs.Records.{entry}
+use Rattle.equality.specs.Equality.{response}
+use Rattle.posted.specs.Records.{entry}
 use Rattle.dealing.proofs.writer.line.Statement.{statement}
 use Rattle.dealing.proofs.writer.line.Tie as tie
 

@@ -9,7 +9,7 @@ use Rattle.words.proofs.Lists.{up-length}
 use Rattle.words.specs.Bytes.{recordBytes}
 use Rattle.sharing.specs.Round.{members}
 use Rattle.dealing.specs.Dealing.{dealtLine}
-use Rattle.dealing.specs.Records.{recordsBytes}
+use Rattle.posted.specs.Records.{recordsBytes}
 use Rattle.dealing.proofs.Entries.{index-within, number-at}
 use Rattle.dealing.proofs.Lines.{lines-next, lines-end}
 use Rattle.dealing.proofs.writer.put_lines.Statement.{statement}

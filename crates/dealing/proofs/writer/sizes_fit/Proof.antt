@@ -2,7 +2,7 @@
 use mathlib.Core.Path.{refl}
 use borrow.Author.Needs.{needs}
 use borrow.Author.Tests.{eq-eqb, ne-eqb}
-use Rattle.dealing.proofs.Conjunctions.{and-held}
+use Rattle.posted.proofs.Conjunctions.{and-held}
 use Rattle.dealing.proofs.writer.sizes_fit.Statement.{statement}
 use Rattle.dealing.proofs.writer.sizes_fit.Tie as tie
 

@@ -8,9 +8,9 @@ use lib.ListN.{length, drop}
 use Rattle.words.specs.Checks.{Check, Met}
 use Rattle.sharing.specs.Round.{members}
 use Rattle.dealing.specs.Dealing.{dealtLine, writtenDealing, writeDealingChecks, writeDealingOutcome}
-use Rattle.dealing.specs.Records.{recordsBytes}
+use Rattle.posted.specs.Records.{recordsBytes}
 use Rattle.dealing.proofs.Sizes.{below-order, group-proper, Writable, writable}
-use Rattle.dealing.proofs.Stages.{round-first, group-is, later-first, later-met, bytes-kept, bytes-written}
+use Rattle.posted.proofs.Stages.{round-first, group-is, later-first, later-met, bytes-kept, bytes-written}
 use Rattle.dealing.proofs.writer.write_dealing.Statement.{statement}
 use Rattle.dealing.proofs.writer.write_dealing.Tie as tie
 

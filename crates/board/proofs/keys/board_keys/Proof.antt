@@ -1,0 +1,108 @@
+-- `keys` meets its contract. The loop's invariant: the first i places hold the keys of the first i members.
+use mathlib.Core.Path.{_≡_, refl, ap, _∙_}
+use mathlib.Core.Bool.{true}
+use mathlib.Core.List.{List}
+use Prim.Native.Nat.{ℕ, _+_, _-_, _*_, _<_, _≤_}
+use native.Mathlib.Omega.{arith}
+use borrow.Author.Needs.{needs}
+use borrow.Author.Tests.{ltb-true}
+use lib.ListN.{length, take}
+use Rattle.words.specs.Lists.{map, all}
+use Rattle.words.specs.Bytes.{wordAt}
+use Rattle.sharing.specs.Round.{members}
+use Rattle.posted.proofs.Members.{members-exactly}
+use Rattle.posted.proofs.Filled.{filled-next}
+use Rattle.board.specs.Search.{recordsIn}
+use Rattle.board.specs.Board.{keyRecord, hasKey, keyIn}
+use Rattle.board.proofs.Matches.{word-in}
+use Rattle.board.proofs.keys.board_keys.Statement.{statement}
+use Rattle.board.proofs.keys.board_keys.Tie as tie
+
+key-inside : (b : List ℕ) (n i : ℕ) → all (hasKey b) (members n) ≡ true → i < n → keyRecord b (i + 1) < recordsIn b
+key-inside b n i e h = ltb-true _ _ (members-exactly (hasKey b) n .0 e (i + 1) (omega arith) (omega arith))
+
+abbrev Inv-loop : tie.InvT-loop
+Inv-loop b n ys₀ i₀ ys i = (i ≤ n) × (length ys ≡ 31) × (take i ys ≡ map (keyIn b) (members i))
+
+abbrev μ-loop : tie.MeasureT-loop
+μ-loop b n ys₀ i₀ ys i = n - i
+
+loop-holds : tie.Need-loop-holds Inv-loop μ-loop
+loop-holds c = (search needs, refl, refl)
+
+cast-at : tie.Need-cast-at Inv-loop μ-loop
+cast-at c = search needs
+
+add-find-key : tie.Need-add-find-key Inv-loop μ-loop
+add-find-key c = search needs
+
+find-key-requires : tie.Need-find-key-requires Inv-loop μ-loop
+find-key-requires c κs = search needs
+
+mul-word-at : tie.Need-mul-word-at Inv-loop μ-loop
+mul-word-at c =
+    let s = c .before .before .before .before in
+    omega (arith, c .find-key .ensures, key-inside (s .args .b .now) (s .args .n) (c .before .before .loop .i) (s .pre .1) (c .before .loop-test .taken))
+
+add-word-at : tie.Need-add-word-at Inv-loop μ-loop
+add-word-at c =
+    let s = c .before .before .before .before in
+    omega (arith, c .find-key .ensures, key-inside (s .args .b .now) (s .args .n) (c .before .before .loop .i) (s .pre .1) (c .before .loop-test .taken))
+
+word-at-requires : tie.Need-word-at-requires Inv-loop μ-loop
+word-at-requires c κs =
+    let s = c .before .before .before .before in
+    omega (arith, c .find-key .ensures, key-inside (s .args .b .now) (s .args .n) (c .before .before .loop .i) (s .pre .1) (c .before .loop-test .taken))
+
+mul-ys : tie.Need-mul-ys Inv-loop μ-loop
+mul-ys c = search needs
+
+array-write-ys : tie.Need-array-write-ys Inv-loop μ-loop
+array-write-ys c = search needs
+
+add-i : tie.Need-add-i Inv-loop μ-loop
+add-i c = search needs
+
+loop-less : tie.Need-loop-less Inv-loop μ-loop
+loop-less c = search needs
+
+loop-again : tie.Need-loop-again Inv-loop μ-loop
+unfolding keyIn
+loop-again c =
+    let l = c .before .before .before .loop in
+    let b = c .before .before .before .before .before .args .b .now in
+    let m : l .i + 1 ≡ 1 + l .i = omega arith in (
+      search needs,
+      search needs,
+      filled-next (keyIn b) 1 (l .i) _ (l .ys) (omega arith) (l .inv .2)
+          (c .word-at .ensures
+          ∙ ap (λ (k : ℕ). wordAt b (32 * k + 12)) (c .before .find-key .ensures)
+          ∙ word-in b (keyRecord b (l .i + 1)) 3 (omega arith)
+          ∙ ap (keyIn b) m),
+    )
+
+returns : tie.Need-returns Inv-loop μ-loop
+returns c =
+    let l = c .before .loop in
+    let e : l .i ≡ c .before .before .before .args .n = omega arith in
+    rw (← e) (l .inv .2)
+
+pub board-keys-spec : {M : Type 1} → statement M
+board-keys-spec =
+    tie.close
+    (tie.spec
+    Inv-loop
+    μ-loop
+    loop-holds
+    cast-at
+    add-find-key
+    find-key-requires
+    mul-word-at
+    add-word-at
+    word-at-requires
+    mul-ys
+    array-write-ys
+    add-i
+    loop-less
+    loop-again
+    returns)

@@ -1,0 +1,15 @@
+-- The theorems of demand 3, one for each of its sentences.
+use Rattle.sharing.proofs.Theorems.{always-carried, uncarried-one-value, carried-passes, opening-exactly, quorum-recovers}
+use Rattle.demand3.specs.Demand3.{Demand3}
+use Rattle.demand3.proofs.TwoBoards.{same-draw-here}
+
+pub demand3 : Demand3
+demand3 =
+    record {
+      always-carried = always-carried;
+      one-value = uncarried-one-value;
+      carried-passes = carried-passes;
+      opening-exactly = opening-exactly;
+      quorum-recovers = quorum-recovers;
+      same-draw = same-draw-here;
+    }

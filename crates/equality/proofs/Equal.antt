@@ -1,0 +1,97 @@
+-- Proofs of equal logarithms: accepted exactly if they hold, and complete. The response is made so that it gives back the announcement of the nonce.
+use mathlib.Core.Path.{_≡_, sym, ap, _∙_}
+use mathlib.Core.Bool.{true}
+use mathlib.Core.List.{List, [], _∷_}
+use Prim.Native.Nat.{ℕ, _<_}
+use native.Mathlib.Omega.{arith}
+use borrow.Author.Tests.{eqb-true, eq-eqb}
+use lib.Dec.{eqb}
+use Rattle.words.specs.Checks.{value}
+use Rattle.words.proofs.Tests.{and-true, true-and, all-true, true-all}
+use Rattle.words.proofs.Checks.{value-exactly}
+use Rattle.field.specs.Residue.{add, mul, neg, sub}
+use Rattle.field.proofs.Modular.{add-comm, add-assoc, add-neg, mul-comm, mul-one, sub-add-neg, sub-below}
+use Rattle.group.specs.Power.{pow}
+use Rattle.group.specs.Table.{groupOf}
+use Rattle.group.specs.Element.{isElement, isExponent, Proper}
+use Rattle.group.specs.declared.Group.{Group}
+use Rattle.group.proofs.Powers.{pow-below, pow-none}
+use Rattle.group.proofs.Elements.{exponent-true, true-exponent, power-element, power-of-sum, power-of-product}
+use Rattle.group.proofs.Table.{table-proper}
+use Rattle.equality.specs.Equality.{announced, response, equalityChecks, equalityOutcome}
+use Rattle.equality.specs.Claims.{Holds, EqualityExactly, EqualityComplete, proofOf}
+use Rattle.equality.specs.declared.Equality.{Equality}
+
+-- a difference and what was taken away
+back : (q w m : ℕ) → 0 < q → add q (sub q w m) m ≡ add q w 0
+back q w m h =
+    ap (λ (x : ℕ). add q x m) (sub-add-neg q w m)
+    ∙ add-assoc q w (neg q m) m
+    ∙ ap (add q w) (add-comm q (neg q m) m ∙ add-neg q m h)
+
+module _ (G : Group) (P : Proper G) where
+  pub response-low : (w c e : ℕ) → response G w c e < G .q
+  unfolding response
+  response-low w c e = sub-below (G .q) _ _ (omega (arith, P .prime-q .above-one))
+
+  -- what the response gives is the announcement of the nonce
+  pub announced-back : (b w c e : ℕ) → isElement G b ≡ true → announced G b (pow (G .p) b e) c (response G w c e) ≡ pow (G .p) b w
+  unfolding announced response
+  announced-back b w c e m =
+      let r = sub (G .q) w (mul (G .q) c e) in
+      ap (mul (G .p) (pow (G .p) b r)) (sym (power-of-product G P b e c m) ∙ ap (pow (G .p) b) (mul-comm (G .q) e c))
+      ∙ sym (power-of-sum G P b r (mul (G .q) c e) m)
+      ∙ ap (pow (G .p) b) (back (G .q) w (mul (G .q) c e) (omega (arith, P .prime-q .above-one)))
+      ∙ power-of-sum G P b w 0 m
+      ∙ ap (mul (G .p) (pow (G .p) b w)) (pow-none (G .p) b (P .prime-p .above-one))
+      ∙ mul-one (G .p) (pow (G .p) b w) (pow-below (G .p) b w (omega (arith, P .prime-p .above-one)))
+
+module _ (k : ℕ) (E : Equality) where
+  abbrev elements : List ℕ
+  elements = E .b1 .0 ∷ E .x1 .0 ∷ E .b2 .0 ∷ E .x2 .0 ∷ E .a1 .0 ∷ E .a2 .0 ∷ []
+
+  abbrev exponents : List ℕ
+  exponents = E .c .0 ∷ E .r .0 ∷ []
+
+  accepted-holds : equalityOutcome k E ≡ value tt → Holds k E
+  unfolding equalityOutcome
+  accepted-holds e =
+      let G : Group = groupOf k in
+      let m = value-exactly Unit (equalityChecks k E) tt .0 e in
+      let low = all-true (isExponent G) exponents (m .1 .1 .0) in
+      let s = and-true (eqb (E .a1 .0) (announced G (E .b1 .0) (E .x1 .0) (E .c .0) (E .r .0))) _ (m .1 .1 .1 .0) in
+      record {
+        group = m .0;
+        elements = all-true (isElement G) elements (m .1 .0);
+        c-low = exponent-true G (E .c .0) (low .0);
+        r-low = exponent-true G (E .r .0) (low .1 .0);
+        first = eqb-true _ _ (s .0);
+        second = eqb-true _ _ (s .1);
+      }
+
+  holds-accepted : Holds k E → equalityOutcome k E ≡ value tt
+  unfolding equalityOutcome
+  holds-accepted H =
+      let G : Group = groupOf k in
+      let six = true-all (isElement G) elements (H .elements) in
+      let seven = true-all (isExponent G) exponents (true-exponent G (E .c .0) (H .c-low), (true-exponent G (E .r .0) (H .r-low), tt)) in
+      let ten = true-and _ _ (eq-eqb _ _ (H .first)) (eq-eqb _ _ (H .second)) in
+      value-exactly Unit (equalityChecks k E) tt .1 (H .group, (six, (seven, (ten, tt))))
+
+pub equality-exactly : EqualityExactly
+equality-exactly k E = (accepted-holds k E, holds-accepted k E)
+
+pub equality-complete : EqualityComplete
+equality-complete k b1 b2 e w c g m1 m2 l =
+    let G : Group = groupOf k in
+    let P : Proper G = table-proper k g in
+    holds-accepted k (proofOf k b1 b2 e w c)
+    (record {
+      group = g;
+      elements =
+          (m1, (power-element G P b1 e m1, (m2, (power-element G P b2 e m2, (power-element G P b1 w m1, (power-element G P b2 w m2, tt))))));
+      c-low = l;
+      r-low = response-low G P w c e;
+      first = sym (announced-back G P b1 w c e m1);
+      second = sym (announced-back G P b2 w c e m2);
+    })

@@ -1,0 +1,2 @@
+-- Proofs of what specs/Claims.antt states, and the laws that they and the functions' proofs share.
+pub mod Equal

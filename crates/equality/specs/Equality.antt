@@ -1,0 +1,38 @@
+-- Proofs that two elements are two bases to one exponent.
+use mathlib.Core.Bool.{Bool, true, false, _&&_}
+use mathlib.Core.List.{List, [], _∷_}
+use Prim.Native.Nat.{ℕ}
+use lib.Dec.{eqb}
+use Rattle.words.specs.Lists.{all}
+use Rattle.words.specs.Checks.{Check, _unless_, Outcome, outcome}
+use Rattle.field.specs.Residue.{mul, sub}
+use Rattle.group.specs.Power.{pow}
+use Rattle.group.specs.Table.{isGroup, groupOf}
+use Rattle.group.specs.Element.{isElement, isExponent}
+use Rattle.group.specs.declared.Group.{Group}
+use Rattle.equality.specs.declared.Equality.{Equality}
+
+-- the announcement that the challenge c and the response r give for the element x to the base b: b^r times x^c
+unfoldable pub announced : Group → ℕ → ℕ → ℕ → ℕ → ℕ
+announced G b x c r = mul (G .p) (pow (G .p) b r) (pow (G .p) x c)
+
+-- the response of the nonce w to the challenge c for the exponent e
+unfoldable pub response : Group → ℕ → ℕ → ℕ → ℕ
+response G w c e = sub (G .q) w (mul (G .q) c e)
+
+-- both announcements are what the challenge and the response give
+abbrev pub equationsHold : Group → Equality → Bool
+equationsHold G E =
+    eqb (E .a1 .0) (announced G (E .b1 .0) (E .x1 .0) (E .c .0) (E .r .0))
+    && eqb (E .a2 .0) (announced G (E .b2 .0) (E .x2 .0) (E .c .0) (E .r .0))
+
+abbrev pub equalityChecks : ℕ → Equality → List Check
+equalityChecks k E =
+    1 unless isGroup k
+    ∷ 6 unless all (isElement (groupOf k)) (E .b1 .0 ∷ E .x1 .0 ∷ E .b2 .0 ∷ E .x2 .0 ∷ E .a1 .0 ∷ E .a2 .0 ∷ [])
+    ∷ 7 unless all (isExponent (groupOf k)) (E .c .0 ∷ E .r .0 ∷ [])
+    ∷ 10 unless equationsHold (groupOf k) E
+    ∷ []
+
+unfoldable pub equalityOutcome : ℕ → Equality → Outcome (Unit {0})
+equalityOutcome k E = outcome (equalityChecks k E) tt

@@ -1,0 +1,74 @@
+-- `form_refusal` meets its contract: each test that fails decides.
+use borrow.Author.Needs.{needs}
+use borrow.Author.Tests.{eq-eqb, ne-eqb}
+use Rattle.posted.proofs.Stages.{passed, failed}
+use Rattle.opened.proofs.share.form_refusal.Statement.{statement}
+use Rattle.opened.proofs.share.form_refusal.Tie as tie
+
+are-members-requires : tie.Need-are-members-requires
+are-members-requires c κs = search needs
+
+returns : tie.Need-returns
+returns c = simp (failed (c .before .are-members .ensures) (c .if1 .taken))
+
+returns-2 : tie.Need-returns-2
+returns-2 c = simp (passed (c .before .before .are-members .ensures) (c .before .if1 .left), ne-eqb _ 32 (c .if2 .taken))
+
+is-key-requires : tie.Need-is-key-requires
+is-key-requires c κs = search needs
+
+returns-3 : tie.Need-returns-3
+returns-3 c =
+    let m = c .before .before .before .before in
+    simp
+    (← m .before .before .pre, passed (m .are-members .ensures) (c .before .before .before .if1 .left), eq-eqb _ 32 (c .before .before .if2 .left), failed (c .before .is-key .ensures) (c .if3 .taken))
+
+is-element-requires : tie.Need-is-element-requires
+is-element-requires c κs = search needs
+
+returns-4 : tie.Need-returns-4
+returns-4 c =
+    let k = c .before .before .before in
+    let m = k .before .before .before in
+    simp
+    (← m .before .before .pre, passed (m .are-members .ensures) (k .before .before .if1 .left), eq-eqb _ 32 (k .before .if2 .left), passed (k .is-key .ensures) (c .before .before .if3 .left), failed (c .before .is-element .ensures) (c .if4 .taken))
+
+read-record-requires : tie.Need-read-record-requires
+read-record-requires c κs = search needs
+
+is-share-of-requires : tie.Need-is-share-of-requires
+is-share-of-requires c κs = search needs
+
+returns-5 : tie.Need-returns-5
+returns-5 c =
+    let r = c .before .before in
+    let e = r .before .before in
+    let k = e .before .before in
+    let m = k .before .before .before in
+    simp
+    (← m .before .before .pre, ← r .read-record .ensures, passed (m .are-members .ensures) (k .before .before .if1 .left), eq-eqb _ 32 (k .before .if2 .left), passed (k .is-key .ensures) (e .before .if3 .left), passed (e .is-element .ensures) (r .before .if4 .left), failed (c .before .is-share-of .ensures) (c .if5 .taken))
+
+returns-6 : tie.Need-returns-6
+returns-6 c =
+    let r = c .before .before in
+    let e = r .before .before in
+    let k = e .before .before in
+    let m = k .before .before .before in
+    simp
+    (← m .before .before .pre, ← r .read-record .ensures, passed (m .are-members .ensures) (k .before .before .if1 .left), eq-eqb _ 32 (k .before .if2 .left), passed (k .is-key .ensures) (e .before .if3 .left), passed (e .is-element .ensures) (r .before .if4 .left), passed (c .before .is-share-of .ensures) (c .if5 .left))
+
+pub form-refusal-spec : {M : Type 1} → statement M
+form-refusal-spec =
+    tie.close
+    (tie.spec
+    are-members-requires
+    returns
+    returns-2
+    is-key-requires
+    returns-3
+    is-element-requires
+    returns-4
+    read-record-requires
+    is-share-of-requires
+    returns-5
+    returns-6)

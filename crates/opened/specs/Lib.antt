@@ -1,0 +1,3 @@
+-- What an opened share is, as it is written and as it is judged, and what is claimed of it.
+pub mod Share
+pub mod Claims

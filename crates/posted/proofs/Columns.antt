@@ -1,0 +1,26 @@
+-- A word of a member's record is a word of the members' bytes.
+use mathlib.Core.Path.{_≡_, sym, ap, _∙_}
+use mathlib.Core.List.{List}
+use Prim.Native.Nat.{ℕ, _+_, _-_, _*_, _<_}
+use native.Mathlib.Omega.{arith}
+use lib.ListN.{getD, take, drop}
+use Rattle.words.specs.Lists.{upFrom}
+use Rattle.words.specs.Bytes.{recordWords, wordAt, recordIn}
+use Rattle.words.proofs.Lists.{map-at, up-at, up-length}
+use Rattle.words.proofs.Bytes.{word-part}
+use Rattle.posted.specs.Records.{recordAt, wordOf}
+
+-- the words of a record are those of its bytes, in order
+record-word : (p : List ℕ) (k : ℕ) → k < 8 → getD (recordWords (recordIn p)) k 0 ≡ wordAt p (4 * k)
+unfolding recordIn
+record-word p k h =
+    map-at (λ (j : ℕ). wordAt p (4 * j)) (upFrom 0 8) k 0 0 (omega (arith, up-length 0 8))
+    ∙ ap (λ (j : ℕ). wordAt p (4 * j)) (up-at 0 8 k h ∙ omega arith)
+
+pub word-of : (k : ℕ) (b : List ℕ) (i : ℕ) → k < 8 → wordAt b (32 * i + 4 * k) ≡ wordOf k b (1 + i)
+unfolding recordAt
+word-of k b i h =
+    let e : i ≡ 1 + i - 1 = omega arith in
+    sym (word-part 32 (32 * i) b (4 * k) (omega arith))
+    ∙ sym (record-word (take 32 (drop (32 * i) b)) k h)
+    ∙ ap (λ (j : ℕ). getD (recordWords (recordAt b j)) k 0) e

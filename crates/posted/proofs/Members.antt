@@ -1,0 +1,57 @@
+-- The members 1 to n: a fact of each as a fact of their list, and tests of their numbers and keys as facts.
+use mathlib.Core.Path.{_≡_, refl, sym, _∙_, subst}
+use mathlib.Core.Bool.{Bool, true, false, not}
+use mathlib.Core.List.{List}
+use mathlib.Core.Logic.{_↔_}
+use Prim.Native.Nat.{ℕ, _+_, _-_, _≤_}
+use native.Mathlib.Omega.{arith}
+use borrow.Author.Tests.{leb-true, le-leb}
+use lib.ListN.{length, getD}
+use lib.Dec.{leb, eqb}
+use Rattle.words.specs.Lists.{All, all}
+use Rattle.words.proofs.Lists.{All-to, All-at, up-length, up-within, up-at}
+use Rattle.words.proofs.Tests.{false-true, and-true, true-and, all-true, true-all}
+use Rattle.group.specs.Element.{isElement}
+use Rattle.group.specs.declared.Group.{Group}
+use Rattle.sharing.specs.Round.{isMember, members}
+use Rattle.posted.specs.Records.{entry, isKey}
+
+-- ---- a fact of each member
+module _ (P : ℕ → Type 0) (n : ℕ) where
+  members-each : All P (members n) → (i : ℕ) → 1 ≤ i → i ≤ n → P i
+  members-each a i h l =
+      let e : getD (members n) (i - 1) 0 ≡ i = up-at 1 n (i - 1) (omega arith) ∙ omega arith in
+      subst P e (All-at P (members n) (i - 1) 0 (omega (arith, up-length 1 n)) a)
+
+  pub each-members : ((i : ℕ) → 1 ≤ i → i ≤ n → P i) → All P (members n)
+  each-members f = All-to (members n) (λ i s. f i (s .0) (omega (arith, s .1))) (up-within 1 n (1 + n) (omega arith))
+
+-- a test of each
+pub members-exactly : (f : ℕ → Bool) (n : ℕ) → (all f (members n) ≡ true) ↔ ((i : ℕ) → 1 ≤ i → i ≤ n → f i ≡ true)
+members-exactly f n =
+    (λ e. members-each (λ i. f i ≡ true) n (all-true f (members n) e), λ h. true-all f (members n) (each-members (λ i. f i ≡ true) n h))
+
+-- the test of all fails where it fails of one
+pub members-false : (f : ℕ → Bool) (n i : ℕ) → 1 ≤ i → i ≤ n → f i ≡ false → all f (members n) ≡ false
+members-false f n i h l e = by (all f (members n)) refl
+  where
+    by : (b : Bool) → all f (members n) ≡ b → all f (members n) ≡ false
+    by true s = absurd (false-true (sym e ∙ members-exactly f n .0 s i h l))
+    by false s = s
+
+-- ---- tests
+pub member-exactly : (n i : ℕ) → (isMember n i ≡ true) ↔ ((1 ≤ i) × (i ≤ n))
+unfolding isMember
+member-exactly n i = (
+  λ e. let s = and-true (leb 1 i) (leb i n) e in (leb-true 1 i (s .0), leb-true i n (s .1)),
+  λ s. true-and (leb 1 i) (leb i n) (le-leb 1 i (s .0)) (le-leb i n (s .1)),
+)
+
+pub key-element : (G : Group) (y : ℕ) → isKey G y ≡ true → isElement G y ≡ true
+unfolding isKey
+key-element G y e = and-true (isElement G y) (not (eqb y 1)) e .0
+
+-- ---- figures in a list of the members' figures
+pub entry-all : (P : ℕ → Type 0) (l : List ℕ) → All P l → (i : ℕ) → 1 ≤ i → i ≤ length l → P (entry l i)
+unfolding entry
+entry-all P l a i h k = All-at P l (i - 1) 0 (omega arith) a

@@ -1,0 +1,158 @@
+-- `coefficient` meets its contract. The loop's invariant: the words of the first i members stand behind the head and the byte k.
+use mathlib.Core.Path.{_≡_, refl, sym, ap, _∙_}
+use mathlib.Core.List.{List, [], _∷_}
+use Prim.Native.Nat.{ℕ, _+_, _-_, _*_, _≤_}
+use native.Mathlib.Omega.{arith}
+use borrow.Author.Needs.{needs}
+use lib.ListN.{length, getD, set, length-set}
+use lib.Seq.{length-take-le}
+use Rattle.words.specs.Bytes.{putAt}
+use Rattle.sha256.specs.Hash.{hash}
+use Rattle.sharing.specs.Round.{members}
+use Rattle.sharing.proofs.Rounds.{ready}
+use Rattle.posted.specs.Records.{entry}
+use Rattle.posted.specs.Message.{message, bytesOver, exponentOf, challengeOf, coefficientMessage}
+use Rattle.posted.proofs.Buffers.{put-none, members-length, over-next, behind-byte}
+use Rattle.posted.proofs.Digests.{order-positive}
+use Rattle.posted.proofs.message.coefficient.Statement.{statement}
+use Rattle.posted.proofs.message.coefficient.Tie as tie
+
+-- the words of member j
+abbrev words : List ℕ → List ℕ → ℕ → List ℕ
+words vs es j = entry vs j ∷ entry es j ∷ []
+
+abbrev Inv-loop : tie.InvT-loop
+Inv-loop gr d vs es k m₀ i₀ m i =
+    (i ≤ length vs) × (length vs ≤ 31) × (length m ≡ 256) × (m ≡ putAt 6 (bytesOver (words vs es) (members i)) m₀)
+
+abbrev μ-loop : tie.MeasureT-loop
+μ-loop gr d vs es k m₀ i₀ m i = length vs - i
+
+slice-aggregate-head : tie.Need-slice-aggregate-head Inv-loop μ-loop
+slice-aggregate-head c = search needs
+
+head-requires : tie.Need-head-requires Inv-loop μ-loop
+head-requires c κs = search needs
+
+cast-m : tie.Need-cast-m Inv-loop μ-loop
+cast-m c = search needs
+
+array-write-m : tie.Need-array-write-m Inv-loop μ-loop
+array-write-m c = search needs
+
+loop-holds : tie.Need-loop-holds Inv-loop μ-loop
+unfolding bytesOver
+loop-holds c =
+    let P = c .before .before .before .before .before .pre in
+    (omega arith, omega (arith, ready _ (P .0) .at-most), simp length-set (c .before .head .kept .0), sym (put-none 6 _))
+
+slice-aggregate-put-two : tie.Need-slice-aggregate-put-two Inv-loop μ-loop
+slice-aggregate-put-two c = search needs
+
+mul-put-two : tie.Need-mul-put-two Inv-loop μ-loop
+mul-put-two c = search needs
+
+add-put-two : tie.Need-add-put-two Inv-loop μ-loop
+add-put-two c = search needs
+
+mul-put-two-2 : tie.Need-mul-put-two-2 Inv-loop μ-loop
+mul-put-two-2 c = search needs
+
+shared-slice-read-put-two : tie.Need-shared-slice-read-put-two Inv-loop μ-loop
+shared-slice-read-put-two c = search needs
+
+mul-put-two-3 : tie.Need-mul-put-two-3 Inv-loop μ-loop
+mul-put-two-3 c = search needs
+
+shared-slice-read-put-two-2 : tie.Need-shared-slice-read-put-two-2 Inv-loop μ-loop
+shared-slice-read-put-two-2 c = search needs
+
+put-two-requires : tie.Need-put-two-requires Inv-loop μ-loop
+put-two-requires c κs = search needs
+
+add-i : tie.Need-add-i Inv-loop μ-loop
+add-i c = search needs
+
+loop-less : tie.Need-loop-less Inv-loop μ-loop
+loop-less c = search needs
+
+loop-again : tie.Need-loop-again Inv-loop μ-loop
+unfolding entry
+loop-again c =
+    let b = c .before .before .before .before .before .before in
+    let l = b .loop in
+    let h = b .before .before in
+    let a = h .before .before .before .before .args in
+    let f = words (a .vs .now) (a .es .now) in
+    let e : l .i ≡ l .i + 1 - 1 = omega arith in (
+      omega arith,
+      l .inv .1,
+      c .before .put-two .kept .0 ∙ l .inv .2,
+      over-next f 8 (λ j. refl) 6 (l .i) _ (set (h .head .last .0) 5 (a .k)) (omega (arith, h .head .kept .0, length-set (h .head .last .0) 5 (a .k)))
+          (ap (λ (j : ℕ). getD (a .vs .now) j 0 ∷ getD (a .es .now) j 0 ∷ []) e)
+          (l .inv .3) (c .before .put-two .ensures),
+    )
+
+mul-end : tie.Need-mul-end Inv-loop μ-loop
+mul-end c = search needs
+
+add-end : tie.Need-add-end Inv-loop μ-loop
+add-end c = search needs
+
+array-share-prefix-m : tie.Need-array-share-prefix-m Inv-loop μ-loop
+array-share-prefix-m c = search needs
+
+slice-aggregate-challenge : tie.Need-slice-aggregate-challenge Inv-loop μ-loop
+slice-aggregate-challenge c =
+    let l = c .before .before .loop in
+    sym (length-take-le (6 + 8 * l .i) (l .m) (omega arith))
+
+challenge-requires : tie.Need-challenge-requires Inv-loop μ-loop
+challenge-requires c κs =
+    let l = c .before .before .loop in
+    let s = c .before .before .before .before .before .before .before .before in
+    (order-positive _ _ (s .pre .0) (s .pre .1), omega (arith, length-take-le (6 + 8 * l .i) (l .m) (omega arith)))
+
+returns : tie.Need-returns Inv-loop μ-loop
+unfolding challengeOf coefficientMessage
+returns c =
+    let l = c .before .before .before .loop in
+    let h = c .before .before .before .before .before in
+    let s = h .before .before .before .before in
+    let a = s .args in
+    let f = words (a .vs .now) (a .es .now) in
+    let e : l .i ≡ a .rd .n = omega arith in
+    let t = behind-byte 0x50 (a .rd) (a .d) (6 + 8 * l .i) (bytesOver f (members (l .i))) _ (h .head .ensures) (omega (arith, h .head .kept .0))
+    (a .k) (l .inv .3) (omega (arith, members-length f 8 (λ j. refl) (l .i))) in
+    c .challenge .ensures
+    ∙ (λ j. exponentOf (s .pre .1 j) (hash (t j)))
+    ∙ ap (λ (n : ℕ). challengeOf (a .rd) (message 0x50 (a .rd) (a .d) (a .k ∷ bytesOver f (members n)))) e
+
+pub coefficient-spec : {M : Type 1} → statement M
+coefficient-spec =
+    tie.close
+    (tie.spec
+    Inv-loop
+    μ-loop
+    slice-aggregate-head
+    head-requires
+    cast-m
+    array-write-m
+    loop-holds
+    slice-aggregate-put-two
+    mul-put-two
+    add-put-two
+    mul-put-two-2
+    shared-slice-read-put-two
+    mul-put-two-3
+    shared-slice-read-put-two-2
+    put-two-requires
+    add-i
+    loop-less
+    loop-again
+    mul-end
+    add-end
+    array-share-prefix-m
+    slice-aggregate-challenge
+    challenge-requires
+    returns)

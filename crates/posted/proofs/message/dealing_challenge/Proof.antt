@@ -1,0 +1,166 @@
+-- `dealing_challenge` meets its contract. The loop's invariant: the words of the first i members stand behind the head.
+use mathlib.Core.Path.{_≡_, refl, sym, ap, _∙_}
+use mathlib.Core.List.{List, [], _∷_}
+use Prim.Native.Nat.{ℕ, _+_, _-_, _*_, _≤_}
+use native.Mathlib.Omega.{arith}
+use borrow.Author.Needs.{needs}
+use lib.ListN.{length, getD}
+use lib.Seq.{length-take-le}
+use Rattle.words.specs.Bytes.{putAt}
+use Rattle.sha256.specs.Hash.{hash}
+use Rattle.sharing.specs.Round.{members}
+use Rattle.sharing.proofs.Rounds.{ready}
+use Rattle.posted.specs.Records.{entry}
+use Rattle.posted.specs.Message.{message, bytesOver, exponentOf, challengeOf, dealingMessage}
+use Rattle.posted.proofs.Buffers.{put-none, members-length, over-next, behind-head}
+use Rattle.posted.proofs.Digests.{order-positive}
+use Rattle.posted.proofs.message.dealing_challenge.Statement.{statement}
+use Rattle.posted.proofs.message.dealing_challenge.Tie as tie
+
+-- the words of member j
+abbrev words : List ℕ → List ℕ → List ℕ → List ℕ → ℕ → List ℕ
+words vs es a1s a2s j = entry vs j ∷ entry es j ∷ entry a1s j ∷ entry a2s j ∷ []
+
+abbrev Inv-loop : tie.InvT-loop
+Inv-loop gr d vs es a1s a2s m₀ i₀ m i =
+    (i ≤ length vs) × (length vs ≤ 31) × (length m ≡ 512) × (m ≡ putAt 5 (bytesOver (words vs es a1s a2s) (members i)) m₀)
+
+abbrev μ-loop : tie.MeasureT-loop
+μ-loop gr d vs es a1s a2s m₀ i₀ m i = length vs - i
+
+slice-aggregate-head : tie.Need-slice-aggregate-head Inv-loop μ-loop
+slice-aggregate-head c = search needs
+
+head-requires : tie.Need-head-requires Inv-loop μ-loop
+head-requires c κs = search needs
+
+loop-holds : tie.Need-loop-holds Inv-loop μ-loop
+unfolding bytesOver
+loop-holds c =
+    let P = c .before .before .before .before .before .before .before .pre in
+    (omega arith, omega (arith, ready _ (P .0) .at-most), c .before .head .kept .0 ∙ refl, sym (put-none 5 _))
+
+slice-aggregate-put-four : tie.Need-slice-aggregate-put-four Inv-loop μ-loop
+slice-aggregate-put-four c = search needs
+
+mul-put-four : tie.Need-mul-put-four Inv-loop μ-loop
+mul-put-four c = search needs
+
+add-put-four : tie.Need-add-put-four Inv-loop μ-loop
+add-put-four c = search needs
+
+mul-put-four-2 : tie.Need-mul-put-four-2 Inv-loop μ-loop
+mul-put-four-2 c = search needs
+
+shared-slice-read-put-four : tie.Need-shared-slice-read-put-four Inv-loop μ-loop
+shared-slice-read-put-four c = search needs
+
+mul-put-four-3 : tie.Need-mul-put-four-3 Inv-loop μ-loop
+mul-put-four-3 c = search needs
+
+shared-slice-read-put-four-2 : tie.Need-shared-slice-read-put-four-2 Inv-loop μ-loop
+shared-slice-read-put-four-2 c = search needs
+
+mul-put-four-4 : tie.Need-mul-put-four-4 Inv-loop μ-loop
+mul-put-four-4 c = search needs
+
+shared-slice-read-put-four-3 : tie.Need-shared-slice-read-put-four-3 Inv-loop μ-loop
+shared-slice-read-put-four-3 c = search needs
+
+mul-put-four-5 : tie.Need-mul-put-four-5 Inv-loop μ-loop
+mul-put-four-5 c = search needs
+
+shared-slice-read-put-four-4 : tie.Need-shared-slice-read-put-four-4 Inv-loop μ-loop
+shared-slice-read-put-four-4 c = search needs
+
+put-four-requires : tie.Need-put-four-requires Inv-loop μ-loop
+put-four-requires c κs = search needs
+
+add-i : tie.Need-add-i Inv-loop μ-loop
+add-i c = search needs
+
+loop-less : tie.Need-loop-less Inv-loop μ-loop
+loop-less c = search needs
+
+loop-again : tie.Need-loop-again Inv-loop μ-loop
+unfolding entry
+loop-again c =
+    let b = c .before .before .before .before .before .before .before .before in
+    let l = b .loop in
+    let h = b .before .before in
+    let a = h .before .before .before .before .before .before .args in
+    let f = words (a .vs .now) (a .es .now) (a .a1s .now) (a .a2s .now) in
+    let e : l .i ≡ l .i + 1 - 1 = omega arith in (
+      omega arith,
+      l .inv .1,
+      c .before .put-four .kept .0 ∙ l .inv .2,
+      over-next f 16 (λ j. refl) 5 (l .i) _ (h .head .last .0) (omega (arith, h .head .kept .0))
+          (ap (λ (j : ℕ). getD (a .vs .now) j 0 ∷ getD (a .es .now) j 0 ∷ getD (a .a1s .now) j 0 ∷ getD (a .a2s .now) j 0 ∷ []) e)
+          (l .inv .3) (c .before .put-four .ensures),
+    )
+
+mul-end : tie.Need-mul-end Inv-loop μ-loop
+mul-end c = search needs
+
+add-end : tie.Need-add-end Inv-loop μ-loop
+add-end c = search needs
+
+array-share-prefix-m : tie.Need-array-share-prefix-m Inv-loop μ-loop
+array-share-prefix-m c = search needs
+
+slice-aggregate-challenge : tie.Need-slice-aggregate-challenge Inv-loop μ-loop
+slice-aggregate-challenge c =
+    let l = c .before .before .loop in
+    sym (length-take-le (5 + 16 * l .i) (l .m) (omega arith))
+
+challenge-requires : tie.Need-challenge-requires Inv-loop μ-loop
+challenge-requires c κs =
+    let l = c .before .before .loop in
+    let s = c .before .before .before .before .before .before .before .before .before .before in
+    (order-positive _ _ (s .pre .0) (s .pre .1), omega (arith, length-take-le (5 + 16 * l .i) (l .m) (omega arith)))
+
+returns : tie.Need-returns Inv-loop μ-loop
+unfolding challengeOf dealingMessage
+returns c =
+    let l = c .before .before .before .loop in
+    let h = c .before .before .before .before .before in
+    let s = h .before .before .before .before .before .before in
+    let a = s .args in
+    let f = words (a .vs .now) (a .es .now) (a .a1s .now) (a .a2s .now) in
+    let e : l .i ≡ a .rd .n = omega arith in
+    let t = behind-head 0x44 (a .rd) (a .d) (5 + 16 * l .i) (bytesOver f (members (l .i))) _ (h .head .ensures) (omega (arith, h .head .kept .0))
+    (l .inv .3) (omega (arith, members-length f 16 (λ j. refl) (l .i))) in
+    c .challenge .ensures
+    ∙ (λ j. exponentOf (s .pre .1 j) (hash (t j)))
+    ∙ ap (λ (n : ℕ). challengeOf (a .rd) (message 0x44 (a .rd) (a .d) (bytesOver f (members n)))) e
+
+pub dealing-challenge-spec : {M : Type 1} → statement M
+dealing-challenge-spec =
+    tie.close
+    (tie.spec
+    Inv-loop
+    μ-loop
+    slice-aggregate-head
+    head-requires
+    loop-holds
+    slice-aggregate-put-four
+    mul-put-four
+    add-put-four
+    mul-put-four-2
+    shared-slice-read-put-four
+    mul-put-four-3
+    shared-slice-read-put-four-2
+    mul-put-four-4
+    shared-slice-read-put-four-3
+    mul-put-four-5
+    shared-slice-read-put-four-4
+    put-four-requires
+    add-i
+    loop-less
+    loop-again
+    mul-end
+    add-end
+    array-share-prefix-m
+    slice-aggregate-challenge
+    challenge-requires
+    returns)

@@ -1,0 +1,2 @@
+-- What `draw` prints.
+pub mod Text

@@ -1,0 +1,111 @@
+-- What `draw` prints: the one place where the format of its output stands.
+use mathlib.Core.Bool.{Bool, true, false, _&&_}
+use mathlib.Core.List.{List, [], _∷_, _++_}
+use Prim.Native.Nat.{ℕ, zero, suc, _+_, _/_, _%_}
+use lib.ListN.{length}
+use lib.Dec.{ltb, eqb}
+use Rattle.words.specs.Choice.{pick}
+use Rattle.words.specs.Checks.{Check, _unless_, Outcome, value, refused, refusal}
+use Rattle.words.specs.Bytes.{recordIn}
+use Rattle.words.specs.declared.Record.{Record}
+use Rattle.group.specs.declared.Element.{Element}
+use Rattle.sharing.specs.declared.Round.{Round}
+use Rattle.board.specs.Board.{boardChecks}
+use Rattle.verdicts.specs.Verdict.{Judges, verdictsOn}
+use Rattle.verdicts.specs.Draw.{countAccepted, drawOn}
+use Rattle.verdicts.specs.declared.Secret.the-variants.{Opened, Recovered, Stuck}
+use Rattle.verdicts.specs.declared.Verdict.{Verdict}
+use Rattle.verdicts.specs.declared.Verdict.the-variants.{None, Refused, Accepted}
+
+-- the decimal digits of v, which is below 10 to the power k
+abbrev pub digits : ℕ → ℕ → List ℕ
+digits zero v = []
+digits (suc k) v = pick (ltb v 10) ((48 + v) ∷ []) (digits k (v / 10) ++ ((48 + v % 10) ∷ []))
+
+-- a space and a figure
+unfoldable pub figure : ℕ → List ℕ
+figure v = 32 ∷ digits 10 v
+
+abbrev pub newLine : List ℕ
+newLine = 10 ∷ []
+
+-- "round", "dealer", "accepted", "refused", "draw", "none", "opened", "recovered", "stuck"
+abbrev pub roundWord : List ℕ
+roundWord = 114 ∷ 111 ∷ 117 ∷ 110 ∷ 100 ∷ []
+
+abbrev pub dealerWord : List ℕ
+dealerWord = 100 ∷ 101 ∷ 97 ∷ 108 ∷ 101 ∷ 114 ∷ []
+
+abbrev pub acceptedWord : List ℕ
+acceptedWord = 97 ∷ 99 ∷ 99 ∷ 101 ∷ 112 ∷ 116 ∷ 101 ∷ 100 ∷ []
+
+abbrev pub refusedWord : List ℕ
+refusedWord = 114 ∷ 101 ∷ 102 ∷ 117 ∷ 115 ∷ 101 ∷ 100 ∷ []
+
+abbrev pub drawWord : List ℕ
+drawWord = 100 ∷ 114 ∷ 97 ∷ 119 ∷ []
+
+abbrev pub noneWord : List ℕ
+noneWord = 110 ∷ 111 ∷ 110 ∷ 101 ∷ []
+
+abbrev pub openedWord : List ℕ
+openedWord = 111 ∷ 112 ∷ 101 ∷ 110 ∷ 101 ∷ 100 ∷ []
+
+abbrev pub recoveredWord : List ℕ
+recoveredWord = 114 ∷ 101 ∷ 99 ∷ 111 ∷ 118 ∷ 101 ∷ 114 ∷ 101 ∷ 100 ∷ []
+
+abbrev pub stuckWord : List ℕ
+stuckWord = 115 ∷ 116 ∷ 117 ∷ 99 ∷ 107 ∷ []
+
+-- ---- lines
+unfoldable pub refusedLine : ℕ → List ℕ
+refusedLine k = refusedWord ++ (figure k ++ newLine)
+
+abbrev pub verdictText : Verdict → List ℕ
+verdictText None = noneWord
+verdictText (Refused k) = refusedWord ++ figure k
+verdictText (Accepted (Opened v)) = openedWord ++ figure (v .0)
+verdictText (Accepted (Recovered v)) = recoveredWord ++ figure (v .0)
+verdictText (Accepted Stuck) = stuckWord
+
+unfoldable pub dealerLine : ℕ → Verdict → List ℕ
+dealerLine d v = dealerWord ++ (figure d ++ (32 ∷ (verdictText v ++ newLine)))
+
+-- the lines of the dealers from d on
+abbrev pub dealerLines : ℕ → List Verdict → List ℕ
+dealerLines d [] = []
+dealerLines d (v ∷ vs) = dealerLine d v ++ dealerLines (suc d) vs
+
+abbrev pub drawLine : Outcome Element → List ℕ
+drawLine (value v) = drawWord ++ (figure (v .0) ++ newLine)
+drawLine (refused k) = refusedLine k
+
+unfoldable pub roundLine : Round → List ℕ
+roundLine R = roundWord ++ (figure (R .group) ++ (figure (R .n) ++ (figure (R .t) ++ newLine)))
+
+unfoldable pub acceptedLine : ℕ → List ℕ
+acceptedLine m = acceptedWord ++ (figure m ++ newLine)
+
+-- ---- the text
+-- of a board whose verdicts are reached
+unfoldable pub report : Judges → Round → List ℕ → List ℕ
+report J R b =
+    roundLine R ++ (dealerLines 1 (verdictsOn J R b) ++ (acceptedLine (countAccepted (verdictsOn J R b)) ++ drawLine (drawOn J R b)))
+
+-- of a board: only its refusal where a check before the verdicts refuses
+unfoldable pub boardText : Judges → Round → List ℕ → List ℕ
+boardText J R b = pick (eqb (refusal (boardChecks R b)) 0) (report J R b) (refusedLine (refusal (boardChecks R b)))
+
+-- ---- round.set: one record, 9, group, n, t, zeros
+unfoldable pub isSetRecord : Record → Bool
+isSetRecord r = eqb (r .w0) 9 && (eqb (r .w4) 0 && (eqb (r .w5) 0 && (eqb (r .w6) 0 && eqb (r .w7) 0)))
+
+abbrev pub setChecks : List ℕ → List Check
+setChecks s = 3 unless eqb (length s) 32 ∷ 4 unless isSetRecord (recordIn s) ∷ []
+
+abbrev pub roundIn : List ℕ → Round
+roundIn s = record { group = recordIn s .w1; n = recordIn s .w2; t = recordIn s .w3 }
+
+-- of the bytes of round.set and board.bin
+unfoldable pub drawText : Judges → List ℕ → List ℕ → List ℕ
+drawText J s b = pick (eqb (refusal (setChecks s)) 0) (boardText J (roundIn s) b) (refusedLine (refusal (setChecks s)))

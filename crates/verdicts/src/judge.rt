@@ -1,0 +1,150 @@
+// The board judge: every dealer's verdict, the count of accepted dealings and the draw.
+ghost use mathlib.Core.Path.{_≡_};
+ghost use mathlib.Core.Bool.{true};
+ghost use Prim.Native.Nat.{_<_};
+ghost use Rattle.words.specs.Choice.{pick};
+ghost use Rattle.words.specs.Checks.{Met, outcome};
+ghost use Rattle.group.specs.Answer.{elementOutcomeOf};
+ghost use Rattle.sharing.specs.Round.{groupIn};
+ghost use Rattle.board.specs.Board.{boardChecks};
+ghost use Rattle.verdicts.specs.Verdict.{judges};
+ghost use Rattle.verdicts.specs.Draw.{countOne, isStuck, secretValue, timesSecret, endChecks, refusedBoard, JudgedAs};
+use crate::Judged;
+use crate::Seat;
+use crate::Secret;
+use crate::Verdict;
+use crate::verdicts::verdict;
+use board::board_keys;
+use board::board_refusal;
+use group::Element;
+use group::ElementAnswer;
+use group::Group;
+use group::GroupAnswer;
+use sharing::Round;
+use sharing::round_group;
+
+// 1 for an accepted dealing.
+fn count_one(v: Verdict) -> u32
+    ensures { λ r. ⌜ r ≡ countOne v ⌝ }
+{
+    match v {
+        Verdict::None => 0,
+        Verdict::Refused(_) => 0,
+        Verdict::Accepted(_) => 1,
+    }
+}
+
+// Whether v is stuck, or a verdict before it.
+fn any_stuck(v: Verdict, before: bool) -> bool
+    ensures { λ r. ⌜ r ≡ pick (isStuck v) true before ⌝ }
+{
+    match v {
+        Verdict::None => before,
+        Verdict::Refused(_) => before,
+        Verdict::Accepted(s) => match s {
+            Secret::Opened(_) => before,
+            Secret::Recovered(_) => before,
+            Secret::Stuck => true,
+        },
+    }
+}
+
+// A secret's value, 1 for a stuck one.
+fn secret_value(s: Secret) -> Element
+    ensures { λ r. ⌜ r .0 ≡ secretValue s ⌝ }
+{
+    match s {
+        Secret::Opened(v) => v,
+        Secret::Recovered(v) => v,
+        Secret::Stuck => Element(1),
+    }
+}
+
+// x times the secret of an accepted dealing.
+// Internal: callers ensure that p is not 0.
+fn times_secret(gr: Group, v: Verdict, x: Element) -> Element
+    requires { ⌜ 0 < gr .p ⌝ }
+    ensures { λ r. ⌜ r .0 ≡ timesSecret (gr .p) v (x .0) ⌝ }
+{
+    match v {
+        Verdict::None => x,
+        Verdict::Refused(_) => x,
+        Verdict::Accepted(s) => secret_value(s).times(gr, x),
+    }
+}
+
+// The draw by the count of accepted dealings, whether one is stuck, and the product of the secrets.
+fn draw_answer(t: u32, accepted: u32, stuck: bool, product: Element) -> ElementAnswer
+    ensures { λ r. ⌜ elementOutcomeOf r ≡ outcome (endChecks t accepted stuck) product ⌝ }
+{
+    if accepted < t {
+        return ElementAnswer::Refused(14);
+    }
+    if stuck {
+        return ElementAnswer::Refused(13);
+    }
+    ElementAnswer::Value(product)
+}
+
+// The verdicts of all dealers, from the last to the first, and how the board ends.
+// Internal: callers ensure that gr is the round's group and that verdicts are reached.
+fn tally(gr: Group, rd: Round, b: &[u8]) -> Judged
+    requires { ⌜ (groupIn rd ≡ gr) × (Met (boardChecks rd (now b))) ⌝ }
+    ensures { λ r. ⌜ JudgedAs judges rd (now (b .entry)) r ⌝ }
+{
+    let n = rd.n as usize;
+    let ys = board_keys(b, rd.n);
+    let none = Seat {
+        verdict: Verdict::None,
+    };
+    let mut seats = [none; 31];
+    let mut accepted: u32 = 0;
+    let mut stuck = false;
+    let mut product = Element(1);
+    let mut d = rd.n;
+    while d > 0 {
+        let v = verdict(gr, rd, &ys[0..n], b, d);
+        accepted = count_one(v) + accepted;
+        stuck = any_stuck(v, stuck);
+        product = times_secret(gr, v, product);
+        d -= 1;
+        let at = d as usize;
+        seats[at] = Seat { verdict: v };
+    }
+    Judged {
+        seats,
+        accepted,
+        draw: draw_answer(rd.t, accepted, stuck, product),
+    }
+}
+
+// The answer where a check before the verdicts refuses the board.
+fn refused_board(k: u32) -> Judged
+    ensures { λ r. ⌜ r ≡ refusedBoard k ⌝ }
+{
+    let none = Seat {
+        verdict: Verdict::None,
+    };
+    Judged {
+        seats: [none; 31],
+        accepted: 0,
+        draw: ElementAnswer::Refused(k),
+    }
+}
+
+// Judges a board. Refused, with no verdict: 1, 2, 3, 4, 5, 12 and 6 as board_refusal. After all verdicts: 14 fewer than t
+// accepted dealings; 13 a stuck dealing.
+pub fn judge_board(rd: Round, b: &[u8]) -> Judged
+    ensures { λ r. ⌜ JudgedAs judges rd (now (b .entry)) r ⌝ }
+{
+    match round_group(rd) {
+        GroupAnswer::Refused(k) => refused_board(k),
+        GroupAnswer::Value(gr) => {
+            let k = board_refusal(rd, b);
+            if k != 0 {
+                return refused_board(k);
+            }
+            tally(gr, rd, b)
+        }
+    }
+}

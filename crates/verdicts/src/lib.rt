@@ -1,0 +1,41 @@
+// The board judge: every dealer's verdict, the count of accepted dealings and the draw.
+mod judge;
+mod shares;
+mod verdicts;
+
+use group::Element;
+use group::ElementAnswer;
+pub use judge::judge_board;
+
+// How the secret of an accepted dealing came.
+pub enum Secret {
+    Opened(Element),
+    Recovered(Element),
+    Stuck,
+}
+
+pub enum Verdict {
+    None,
+    Refused(u32),
+    Accepted(Secret),
+}
+
+// A dealer's verdict, as an array holds it.
+pub struct Seat {
+    pub verdict: Verdict,
+}
+
+// The lowest members with accepted shares, and these shares: the first places of two arrays.
+pub struct Lowest {
+    pub members: [u32; 31],
+    pub shares: [u32; 31],
+    pub count: usize,
+}
+
+// Every dealer's verdict (dealer d at d - 1, those above n None), the count of accepted dealings, and the draw: the beacon's output,
+// or the number of the refusal.
+pub struct Judged {
+    pub seats: [Seat; 31],
+    pub accepted: u32,
+    pub draw: ElementAnswer,
+}
