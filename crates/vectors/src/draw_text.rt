@@ -2,13 +2,19 @@
 // follows.
 use crate::print;
 
-pub fn run(set: &[u8], board: &[u8]) -> bool {
-    let mut out = [0u8; 1024];
-    let size = text::draw_text(set, board, &mut out);
-    if size > 1024 {
+// Prints the first `size` bytes. False where there are fewer.
+fn print_text(out: &[u8; 1024], size: usize) -> bool {
+    let all = &out[..];
+    if all.len() < size {
         return false;
     }
     print::length(b"text ", size);
-    print::text(&out[0..size]);
+    print::text(&all[0..size]);
     true
+}
+
+pub fn run(set: &[u8], board: &[u8]) -> bool {
+    let mut out = [0u8; 1024];
+    let size = text::draw_text(set, board, &mut out);
+    print_text(&out, size)
 }
