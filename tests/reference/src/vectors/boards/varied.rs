@@ -34,6 +34,7 @@ fn change(board: &mut Posted, all: &Posted, numbers: &mut Numbers) {
     let other = all.records[numbers.below(all.records.len() as u32) as usize];
     let [kind, dealer, ..] = board.records[k];
     let word = 3 + numbers.below(4) as usize;
+    let any = numbers.word();
     match numbers.below(24) {
         0..=5 if kind > 1 => {
             board.records.remove(k);
@@ -41,15 +42,8 @@ fn change(board: &mut Posted, all: &Posted, numbers: &mut Numbers) {
         6..=11 if kind > 1 => board.remove(|r| r[..2] == [kind, dealer]),
         12..=20 if other[0] == kind => board.records[k][word] = other[word],
         21 => board.records.swap(k, 0),
-        22 => board.change(k, word, |_| numbers_word(&other)),
+        22 => board.change(k, word, |_| any),
         23 => board.records[k] = other,
         _ => {}
     }
-}
-
-/// A word of no meaning from a record's figures.
-fn numbers_word(record: &[u32; 8]) -> u32 {
-    record
-        .iter()
-        .fold(0, |word, figure| word.rotate_left(7) ^ figure)
 }
