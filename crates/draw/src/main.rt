@@ -1,4 +1,5 @@
 // Reads round.set and board.bin from the current folder, and writes the text of the draw to standard output.
+ghost use Rattle.io.specs.Counts.{Counts};
 use libc::STDOUT_FILENO;
 
 // Reads a file to the start of `space` until it ends or the space is full, and answers how many bytes that is. A missing file counts as

@@ -4,7 +4,7 @@
 // The payload follows.
 mod degree;
 mod digest;
-mod equality;
+mod equality_check;
 mod judge_dealing;
 mod judge_share;
 mod opening;
@@ -35,7 +35,7 @@ fn run(case: Record, space: &mut [u8], count: usize) -> bool {
         3 => degree::run(case, space),
         4 => opening::run(case, space),
         5 => recovery::run(case, space),
-        6 => equality::run(case, space),
+        6 => equality_check::run(case, space),
         7 => write_dealing::run(case, space),
         8 => judge_dealing::run(case, space),
         9 => write_share::run(case, space),

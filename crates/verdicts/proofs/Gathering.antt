@@ -150,7 +150,6 @@ module _ (J : Judges) (R : Round) (b : List ℕ) (d : ℕ) where
         ≡ map g (take (R .t) (filter (isShareBy J R b d) (upFrom 0 (recordsIn b)))) =
         λ g. ap (λ (x : ℕ). map g (take (R .t) (filter (isShareBy J R b d) (upFrom 0 x)))) s in
         record {
-          most = omega (arith, F .top);
           count =
               sym (length-take-le (A .count) (A .members) (omega (arith, F .top, F .member-places)))
               ∙ ap length (m ∙ to memberIn)

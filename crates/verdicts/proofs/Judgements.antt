@@ -1,13 +1,13 @@
 -- The board judge's answer: refused before the verdicts by the number of the first check that is not met, else by the tally of all dealers.
 use mathlib.Core.Path.{_≡_, sym, ap, _∙_}
 use mathlib.Core.Bool.{Bool, true, false}
-use mathlib.Core.List.{List, [], _∷_, _++_}
+use mathlib.Core.List.{List, _++_}
 use mathlib.Core.Logic.{⊎-elim}
 use Prim.Native.Nat.{ℕ}
 use native.Mathlib.Omega.{arith}
 use borrow.Author.Tests.{eq-eqb, ne-eqb}
 use lib.Dec.{eqb}
-use Rattle.words.specs.Checks.{Check, Met, FirstUnmet, Numbered, refused, refusal, outcome}
+use Rattle.words.specs.Checks.{Met, FirstUnmet, refused, refusal, outcome}
 use Rattle.words.proofs.Tests.{pick-true, pick-false}
 use Rattle.words.proofs.Checks.{refusal-append, none-exactly}
 use Rattle.group.specs.Answer.{elementOutcomeOf}
@@ -20,21 +20,12 @@ use Rattle.board.specs.Board.{formChecks, keyChecks, boardChecks}
 use Rattle.verdicts.specs.Verdict.{judges, verdictOn, verdictsOn}
 use Rattle.verdicts.specs.Draw.{countAccepted, secretsProduct, endChecks, drawOf, drawOn, seatsOf, noSeats, refusedBoard, JudgedAs}
 use Rattle.verdicts.specs.declared.Seat.{Seat}
-use Rattle.board.proofs.Numbers.{form-numbered}
+use Rattle.board.proofs.Numbers.{board-numbered}
 use Rattle.verdicts.proofs.Seats.{Tallied, all-seats, all-counted, all-stuck, all-secrets}
 
-append-numbered : (cs ds : List Check) → Numbered cs → Numbered ds → Numbered (cs ++ ds)
-append-numbered [] ds n m = m
-append-numbered (c ∷ cs) ds n m = (n .0, append-numbered cs ds (n .1) m)
-
 module _ (R : Round) (b : List ℕ) where
-  board-numbered : Numbered (boardChecks R b)
-  board-numbered =
-      append-numbered (roundChecks R) (formChecks (R .n) b ++ keyChecks R b) (omega arith, (omega arith, tt))
-      (append-numbered (formChecks (R .n) b) (keyChecks R b) (form-numbered (R .n) b) (omega arith, (omega arith, tt)))
-
   pub reached-met : refusal (boardChecks R b) ≡ 0 → Met (boardChecks R b)
-  reached-met = none-exactly (boardChecks R b) board-numbered .0
+  reached-met = none-exactly (boardChecks R b) (board-numbered R b) .0
 
   pub judged-refused : (k : ℕ) → refusal (boardChecks R b) ≡ k → (k ≡ 0 → ⊥) → JudgedAs judges R b (refusedBoard k)
   unfolding refusedBoard drawOn
@@ -56,7 +47,7 @@ module _ (R : Round) (b : List ℕ) where
 
   module _ (m : Met (boardChecks R b)) where
     none-refused : eqb (refusal (boardChecks R b)) 0 ≡ true
-    none-refused = eq-eqb (refusal (boardChecks R b)) 0 (none-exactly (boardChecks R b) board-numbered .1 m)
+    none-refused = eq-eqb (refusal (boardChecks R b)) 0 (none-exactly (boardChecks R b) (board-numbered R b) .1 m)
 
     pub tallied-judged : (G : Group) → groupIn R ≡ G → (d : ℕ) (seats : List Seat) (accepted : ℕ) (stuck : Bool) (product : Element)
         → Tallied (verdictOn judges R b) (G .p) (R .n) d seats accepted stuck (product .0) → d ≡ 0

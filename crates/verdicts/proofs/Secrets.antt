@@ -6,7 +6,7 @@ use Prim.Native.Nat.{ℕ, zero, suc, _-_, _*_, _<_, _≤_}
 use native.Mathlib.Omega.{arith}
 use native.Mathlib.Nat.{sub-zero}
 use borrow.Author.Tests.{lt-ltb, le-ltb, ltb-true}
-use lib.ListN.{length, take}
+use lib.ListN.{length, take, length-take}
 use lib.Seq.{length-take-le}
 use lib.Dec.{ltb}
 use Rattle.words.specs.Choice.{pick}
@@ -42,6 +42,9 @@ all-taken zero xs h = omega arith
 all-taken (suc t) [] h = h
 all-taken (suc t) (x ∷ xs) h = let s = all-taken t xs (omega arith) in omega arith
 
+full-taken : (k : ℕ) (l : List ℕ) → length (take k l) ≡ k → k ≤ length l
+full-taken k l e = omega (arith, length-take k l, e)
+
 module _ (J : Judges) {R : Round} {b : List ℕ} {d : ℕ} {lines : List ℕ} (D : Dealt R b d lines) where
   members-low : Below (groupIn R .q) (map (λ i. recordAt b i .w2) (take (R .t) (sharesBy J R b d)))
   unfolding sharesBy
@@ -53,6 +56,12 @@ module _ (J : Judges) {R : Round} {b : List ℕ} {d : ℕ} {lines : List ℕ} (D
       (All-to is (λ i s. let z = shapes F i (omega (arith, s .0 .1)) .member in omega (arith, z, dealt-ready D .few)) (filter-up (isShareBy J R b d) 0 (recordsIn b))))
 
   module _ {A : Lowest} (L : LowestBy J R b d A) where
+    pub members-room : A .count ≤ length (A .members)
+    members-room = full-taken _ _ (ap length (L .members) ∙ map-length (λ i. recordAt b i .w2) (take (R .t) (sharesBy J R b d)) ∙ sym (L .count))
+
+    pub shares-room : A .count ≤ length (A .shares)
+    shares-room = full-taken _ _ (ap length (L .shares) ∙ map-length (λ i. recordAt b i .w3) (take (R .t) (sharesBy J R b d)) ∙ sym (L .count))
+
     pub found-low : {G : Group} → groupIn R ≡ G → Below (G .q) (take (A .count - 0) (A .members))
     found-low e =
         subst (λ (H : Group). Below (H .q) (take (A .count - 0) (A .members))) e

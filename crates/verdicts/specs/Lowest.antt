@@ -1,7 +1,7 @@
 -- The t lowest members with accepted shares, as an array holds them.
 use mathlib.Core.Path.{_≡_}
 use mathlib.Core.List.{List}
-use Prim.Native.Nat.{ℕ, _+_, _≤_}
+use Prim.Native.Nat.{ℕ, _+_}
 use lib.ListN.{length, take, set}
 use Rattle.words.specs.Choice.{pick}
 use Rattle.words.specs.Lists.{map}
@@ -19,7 +19,6 @@ withShare J R b d i A =
 
 -- the members and shares of the first t records of accepted shares
 pub record LowestBy (J : Judges) (R : Round) (b : List ℕ) (d : ℕ) (A : Lowest) : Type 0 where
-  pub most : A .count ≤ 31
   pub count : A .count ≡ length (take (R .t) (sharesBy J R b d))
   pub members : take (A .count) (A .members) ≡ map (λ i. recordAt b i .w2) (take (R .t) (sharesBy J R b d))
   pub shares : take (A .count) (A .shares) ≡ map (λ i. recordAt b i .w3) (take (R .t) (sharesBy J R b d))

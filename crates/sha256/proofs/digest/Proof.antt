@@ -1,13 +1,14 @@
 -- `digest` refuses a message that is too long, and else absorbs its blocks.
 -- Invariant: the state is the hash value after the first i blocks.
-use mathlib.Core.Path.{_≡_}
+use mathlib.Core.Path.{_≡_, ap, _∙_}
 use Prim.Native.Nat.{_-_, _≤_}
 use native.Mathlib.Numerals.{add-one}
 use native.Mathlib.Omega.{arith}
 use borrow.Author.Needs.{needs}
 use borrow.Author.Tests.{le-leb, lt-leb}
+use Rattle.words.specs.Checks.{value}
 use Rattle.sha256.specs.Padding.{pad, blocks}
-use Rattle.sha256.specs.Hash.{intermediate, hashValue}
+use Rattle.sha256.specs.Hash.{compress, stateRecord, intermediate, hashValue}
 use Rattle.sha256.proofs.digest.Statement.{statement}
 use Rattle.sha256.proofs.digest.Tie as tie
 
@@ -44,7 +45,11 @@ loop-less c = search needs
 
 loop-again : tie.Need-loop-again Inv-loop μ-loop
 unfolding intermediate
-loop-again c = (omega arith, rw add-one cc)
+loop-again c =
+    let l = c .before .before .before .before .loop in (
+      omega arith,
+      rw add-one (c .absorb .ensures ∙ (λ j. compress (l .inv .1 j) (c .before .before .block .ensures j))),
+    )
 
 hash-value-requires : tie.Need-hash-value-requires Inv-loop μ-loop
 hash-value-requires c κs = search needs
@@ -52,9 +57,11 @@ hash-value-requires c κs = search needs
 returns-2 : tie.Need-returns-2 Inv-loop μ-loop
 unfolding hashValue
 returns-2 c =
-    let l = c .before .before .loop in
-    let e : l .i ≡ blocks (pad (c .before .before .before .before .before .before .before .args .s .now)) = omega arith in
-    rw (le-leb _ _ (c .before .before .before .before .before .if1 .left)) cc
+    let l = c .before .before in
+    let a = l .before .before .before .before .before .args in
+    let e : l .loop .i ≡ blocks (pad (a .s .now)) = omega arith in
+    let r = c .hash-value .ensures ∙ (λ j. stateRecord ((l .loop .inv .1 ∙ ap (intermediate (pad (a .s .now))) e) j)) in
+    rw (le-leb _ _ (l .before .before .before .if1 .left)) (ap value r)
 
 pub digest-spec : {M : Type 1} → statement M
 digest-spec =

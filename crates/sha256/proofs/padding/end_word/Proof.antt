@@ -1,8 +1,9 @@
 -- `end_word` puts four bytes together.
+use mathlib.Core.Path.{_∙_}
 use native.Mathlib.Omega.{arith}
-use Rattle.words.specs.Bytes.{wordAt}
-use Rattle.sha256.proofs.Padded.{pad-length}
 use borrow.Author.Needs.{needs}
+use Rattle.words.specs.Bytes.{word, wordAt}
+use Rattle.sha256.proofs.Padded.{pad-length}
 use Rattle.sha256.proofs.padding.end_word.Statement.{statement}
 use Rattle.sha256.proofs.padding.end_word.Tie as tie
 
@@ -35,7 +36,11 @@ word-at-requires c κs = search needs
 
 returns : tie.Need-returns
 unfolding wordAt
-returns c = cc
+returns c =
+    let d = c .before .before in
+    let third = d .before in
+    c .word-at .ensures
+    ∙ (λ j. word (third .before .before .padded-byte .ensures j) (third .before .padded-byte2 .ensures j) (third .padded-byte3 .ensures j) (d .padded-byte4 .ensures j))
 
 pub end-word-spec : {M : Type 1} → statement M
 end-word-spec =

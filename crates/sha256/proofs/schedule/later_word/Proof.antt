@@ -1,6 +1,10 @@
 -- `later_word` adds the four words in the order of the definition.
-use Rattle.sha256.specs.Hash.{later}
+use mathlib.Core.Path.{_∙_}
+use Prim.Native.Nat.{_-_}
+use lib.ListN.{getD}
 use borrow.Author.Needs.{needs}
+use Rattle.sha256.specs.Word.{_⊞_}
+use Rattle.sha256.specs.Hash.{later}
 use Rattle.sha256.proofs.schedule.later_word.Statement.{statement}
 use Rattle.sha256.proofs.schedule.later_word.Tie as tie
 
@@ -57,7 +61,13 @@ wrapping-add-u32-requires-3 c κs = search needs
 
 returns : tie.Need-returns
 unfolding later
-returns c = cc
+returns c =
+    let y = c .before .before in
+    let x = y .before .before .before in
+    let a = x .before .before .before .before .args in
+    let first = x .wrapping-add-u32 .ensures ∙ (λ j. x .before .before .small-sigma1 .ensures j ⊞ getD (a .w .now) (a .t - 7) 0) in
+    let second = y .wrapping-add-u322 .ensures ∙ (λ j. first j ⊞ y .before .small-sigma0 .ensures j) in
+    c .wrapping-add-u323 .ensures ∙ (λ j. second j ⊞ getD (a .w .now) (a .t - 16) 0)
 
 pub later-word-spec : {M : Type 1} → statement M
 later-word-spec =

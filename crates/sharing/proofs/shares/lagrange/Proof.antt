@@ -45,7 +45,8 @@ minus-requires c κs =
     let P = c .before .before .before .before .before .before .pre in
     let k = c .before .before .before .before .loop .k in
     let h : k - 1 < length (a .ms .now) = omega arith in
-    (All-at (λ x. x < a .gr .q) (a .ms .now) (k - 1) 0 h (P .2), P .1)
+    let b = All-at (λ x. x < a .gr .q) (a .ms .now) (k - 1) 0 h (P .2) in
+    search needs
 
 times-requires-2 : tie.Need-times-requires-2 Inv-loop μ-loop
 times-requires-2 c κs = search needs

@@ -42,8 +42,8 @@ add-t14 c = search needs
 
 returns-2 : tie.Need-returns-2
 returns-2 c =
-    let r = c .before .before .before in
-    let v = r .before in
+    let r = c .before .before in
+    let v = r .before .before in
     let s = v .before .before in
     let a = s .before .before .before .args in
     with-one (a .rd) (a .b .now) (a .d) (a .i) (a .found) (s .accepted-share .ensures) _ (v .s .given .1) (ap (λ (x : Record). x .w2) (r .record-at .ensures))

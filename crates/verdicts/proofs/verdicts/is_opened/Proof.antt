@@ -9,10 +9,29 @@ use Rattle.words.specs.declared.Record.{Record}
 use Rattle.sharing.specs.Answer.{checkOutcomeOf}
 use Rattle.sharing.specs.Carried.{isValue}
 use Rattle.posted.specs.Records.{recordAt}
+use Rattle.verdicts.specs.Verdict.{isOpened}
 use Rattle.verdicts.proofs.ShareAnswers.{dealt-ready, lines-length}
 use Rattle.verdicts.proofs.Secrets.{opened-none, opened-told}
 use Rattle.verdicts.proofs.verdicts.is_opened.Statement.{statement}
 use Rattle.verdicts.proofs.verdicts.is_opened.Tie as tie
+
+-- what the opening operation answers decides
+told : (c : tie.After-opening)
+    → isValue (checkOutcomeOf (c .opening .result))
+    ≡ isOpened (c .before .before .before .before .before .before .before .before .before .before .before .args .rd)
+    (c .before .before .before .before .before .before .before .before .before .before .before .args .b .now)
+    (c .before .before .before .before .before .before .before .before .before .before .before .args .d)
+told c =
+    let k = c .before .before .before .before in
+    let f = k .before .before .before .before in
+    let w = f .before .before .before in
+    let rd = w .args .rd in
+    let b = w .args .b .now in
+    ap isValue (c .opening .ensures)
+    ∙ opened-told rd b (w .args .d) (w .pre .part)
+    (omega (arith, k .before .before .if1 .left, k .before .before .before .records .ensures, f .find-opening .ensures))
+    (ap (λ (x : ℕ). take x (k .column .result)) (sub-zero (rd .n)) ∙ k .column .ensures)
+    (ap (λ (x : Record). x .w3) (c .before .record-at .ensures ∙ ap (recordAt b) (f .find-opening .ensures)))
 
 find-opening-requires : tie.Need-find-opening-requires
 find-opening-requires c κs = search needs
@@ -31,7 +50,7 @@ cast-n c = search needs
 
 column-requires : tie.Need-column-requires
 column-requires c κs =
-    let w = c .before .before .before .before .before .before .before in
+    let w = c .before .before .before .before .before .before in
     (dealt-ready (w .pre) .at-most, lines-length (w .pre), omega arith)
 
 sub-opening : tie.Need-sub-opening
@@ -58,10 +77,10 @@ enum-told-2 : tie.Need-enum-told-2
 enum-told-2 c = search needs
 
 returns-2 : tie.Need-returns-2
-returns-2 c = ?
+returns-2 c = ap isValue (ap checkOutcomeOf (sym (c .enum-told .given .1))) ∙ told (c .before .before)
 
 returns-3 : tie.Need-returns-3
-returns-3 c = ?
+returns-3 c = ap isValue (ap checkOutcomeOf (sym (c .enum-told2 .given .1))) ∙ told (c .before .before)
 
 pub is-opened-spec : {M : Type 1} → statement M
 is-opened-spec =

@@ -1,10 +1,11 @@
 -- `State::rounds` is the 64 rounds. Invariant: the working variables are those after t rounds.
-use mathlib.Core.Path.{_≡_, refl}
+use mathlib.Core.Path.{_∙_, _≡_, refl}
 use Prim.Native.Nat.{_-_, _≤_}
 use native.Mathlib.Numerals.{add-one}
 use native.Mathlib.Omega.{arith}
+use lib.ListN.{getD}
 use borrow.Author.Needs.{needs}
-use Rattle.sha256.specs.Hash.{rounds}
+use Rattle.sha256.specs.Hash.{round, rounds}
 use Rattle.sha256.proofs.state.State.rounds.Statement.{statement}
 use Rattle.sha256.proofs.state.State.rounds.Tie as tie
 
@@ -44,7 +45,12 @@ loop-less c = search needs
 
 loop-again : tie.Need-loop-again Inv-loop μ-loop
 unfolding rounds
-loop-again c = (omega arith, rw add-one cc)
+loop-again c =
+    let l = c .before .before .before in
+    let w = l .before .before .args .w .now in (
+      omega arith,
+      rw add-one (c .round .ensures ∙ (λ j. round (l .loop .inv .1 j) (getD (l .before .constants .ensures j) (l .loop .t) 0) (getD w (l .loop .t) 0))),
+    )
 
 returns : tie.Need-returns Inv-loop μ-loop
 returns c = let e : c .before .loop .t ≡ 64 = omega arith in rw e at (c .before .loop .inv .1)

@@ -17,12 +17,12 @@ use Rattle.sharing.proofs.Rounds.{ready}
 use Rattle.posted.specs.Records.{recordAt}
 use Rattle.board.specs.Search.{recordsIn}
 use Rattle.board.specs.Board.{linesStart, linesEnd, lineCount}
 use Rattle.verdicts.specs.Verdict.{Judges, dealingAnswer, isAccepted, secretBy, verdictFrom, verdictOn}
-use Rattle.verdicts.specs.Claims.{VerdictRules}
+use Rattle.demand3.specs.Claims.{VerdictRules}
 use Rattle.verdicts.specs.declared.Secret.{Secret}
 use Rattle.verdicts.specs.declared.Verdict.the-variants.{None, Refused, Accepted}
 use Rattle.board.proofs.Order.{Formed, reached}
-use Rattle.verdicts.proofs.Sources.{shares-ascend, source-of, opened-exactly, recovers-exactly, stuck-exactly}
+use Rattle.demand3.proofs.Sources.{shares-ascend, source-of, opened-exactly, recovers-exactly, stuck-exactly}
 use Rattle.board.proofs.LineRun.{lines-exact}
 
 -- ---- the four cases of a verdict

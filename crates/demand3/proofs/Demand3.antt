@@ -1,7 +1,7 @@
 -- The theorems of demand 3, one for each of its sentences.
 use Rattle.sharing.proofs.Theorems.{always-carried, uncarried-one-value, carried-passes, opening-exactly, quorum-recovers}
-use Rattle.verdicts.specs.Demand3.{Demand3}
-use Rattle.verdicts.proofs.TwoBoards.{same-draw-here}
+use Rattle.demand3.specs.Demand3.{Demand3}
+use Rattle.demand3.proofs.TwoBoards.{same-draw-here}
 
 pub demand3 : Demand3
 demand3 =

@@ -19,9 +19,9 @@ use Rattle.sharing.proofs.Place.{is-value}
 use Rattle.posted.specs.Records.{recordAt}
 use Rattle.board.specs.Search.{Ascending, recordsIn}
 use Rattle.board.specs.Board.{isKind, isOpeningBy, openingRecord}
 use Rattle.verdicts.specs.Verdict.{Judges, commitmentsOf, isShareBy, sharesBy, fromShares, isOpened, secretBy}
-use Rattle.verdicts.specs.Claims.{RightlyOpened, powerOfH, recoveredFrom}
+use Rattle.demand3.specs.Claims.{RightlyOpened, powerOfH, recoveredFrom}
 use Rattle.verdicts.specs.declared.Secret.the-variants.{Opened, Recovered, Stuck}
 use Rattle.board.proofs.Searches.{first-is, filter-ascending}
 use Rattle.board.proofs.Order.{Formed, shapes, ranks, only-first}
 

@@ -22,15 +22,15 @@ use Rattle.sharing.proofs.Theorems.{opening-exactly, secret-of-commitments}
 use Rattle.posted.specs.Records.{recordAt}
 use Rattle.posted.proofs.Members.{each-members}
 use Rattle.board.specs.Search.{Ascending, recordsIn}
 use Rattle.verdicts.specs.Verdict.{Judges, judges, isAccepted, commitmentsOf, isShareBy, sharesBy, secretBy}
 use Rattle.verdicts.specs.Draw.{secretValue, drawOn}
-use Rattle.verdicts.specs.Claims.{powerOfH, recoveredFrom, acceptedDealers, productOf, SomeStuck, Recoverable, AllRecoverable, secretsOf, SameDraw, SameDrawHere}
+use Rattle.demand3.specs.Claims.{powerOfH, recoveredFrom, acceptedDealers, productOf, SomeStuck, Recoverable, AllRecoverable, secretsOf, SameDraw, SameDrawHere}
 use Rattle.verdicts.specs.declared.Secret.the-variants.{Stuck}
 use Rattle.board.proofs.Searches.{filter-all, filter-up, filter-same, take-ascending, ascending-distinct}
 use Rattle.board.proofs.Order.{Formed, reached, shapes}
-use Rattle.verdicts.proofs.Sources.{Source, opened, recovers, stuck, source-of, stuck-exactly, share-true, shares-ascend}
-use Rattle.verdicts.proofs.VerdictCases.{verdict-rules}
-use Rattle.verdicts.proofs.Endings.{end-rules}
+use Rattle.demand3.proofs.Sources.{Source, opened, recovers, stuck, source-of, stuck-exactly, share-true, shares-ascend}
+use Rattle.demand3.proofs.VerdictCases.{verdict-rules}
+use Rattle.demand3.proofs.Endings.{end-rules}
 
 -- ---- one recoverable dealing
 module _ {J : Judges} {R : Round} {b : List ℕ} (F : Formed R b) {d : ℕ} {cs : List ℕ} (S : Recoverable J R b d cs) where

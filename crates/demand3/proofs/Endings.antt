@@ -12,42 +12,25 @@ use lib.ListN.{length}
 use lib.Dec.{eqb}
 use Rattle.words.specs.Choice.{pick}
 use Rattle.words.specs.Lists.{map, upFrom}
-use Rattle.words.specs.Checks.{Check, value, refused, refusal, outcome, Met, Numbered}
-use Rattle.words.proofs.Lists.{All-append}
+use Rattle.words.specs.Checks.{Check, value, refused, refusal, outcome, Met}
 use Rattle.words.proofs.Tests.{false-true, pick-true, pick-false}
 use Rattle.words.proofs.Checks.{value-met, value-exactly, refused-exactly, none-exactly, first-exactly, first-numbered}
 use Rattle.group.specs.declared.Element.{Element}
 use Rattle.sharing.specs.Round.{groupIn, members}
 use Rattle.sharing.specs.declared.Round.{Round}
-use Rattle.board.specs.Search.{filter, recordsIn}
-use Rattle.board.specs.Board.{recordChecks, keyChecks, boardChecks}
+use Rattle.board.specs.Search.{filter}
+use Rattle.board.specs.Board.{boardChecks}
 use Rattle.verdicts.specs.Verdict.{Judges, isAccepted, secretBy, verdictOn, verdictsOn}
 use Rattle.verdicts.specs.Draw.{countOne, countAccepted, isStuck, anyStuck, secretValue, timesSecret, secretsProduct, drawChecks, drawOf, drawOn}
-use Rattle.verdicts.specs.Claims.{acceptedDealers, productOf, SomeStuck, RefusedBefore, EndRules}
+use Rattle.demand3.specs.Claims.{acceptedDealers, productOf, SomeStuck, RefusedBefore, EndRules}
 use Rattle.verdicts.specs.declared.Secret.the-variants.{Opened, Recovered, Stuck}
 use Rattle.verdicts.specs.declared.Verdict.{Verdict}
 use Rattle.verdicts.specs.declared.Verdict.the-variants.{None, Refused, Accepted}
+use Rattle.board.proofs.Numbers.{board-numbered}
 use Rattle.board.proofs.Order.{Formed, reached}
-use Rattle.verdicts.proofs.VerdictCases.{Case, nothing, partial, rejected, passed, case-of}
+use Rattle.demand3.proofs.VerdictCases.{Case, nothing, partial, rejected, passed, case-of}
 
 -- ---- refused before the verdicts
-records-numbered : (n : ℕ) (b : List ℕ) (i m : ℕ) → Numbered (recordChecks n b i m)
-records-numbered n b i zero = tt
-records-numbered n b i (suc m) = (omega arith, (omega arith, records-numbered n b (suc i) m))
-
-pub board-numbered : (R : Round) (b : List ℕ) → Numbered (boardChecks R b)
-board-numbered R b =
-    let r = records-numbered (R .n) b 0 (recordsIn b) in (
-      omega arith,
-      (
-        omega arith,
-        (
-          omega arith,
-          All-append (λ (c : Check). 0 < c .number) (recordChecks (R .n) b 0 (recordsIn b)) (keyChecks R b) r (omega arith, (omega arith, tt)),
-        ),
-      ),
-    )
-
 pub refused-before : RefusedBefore
 unfolding drawOn
 refused-before J R b k u =

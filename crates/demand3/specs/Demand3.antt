@@ -1,7 +1,7 @@
 -- Demand 3 whole, sentence by sentence: A to E on one dealing's commitments, F on two boards. Each is stated over the answers of the
 -- operations, for every round that 1 and 2 do not refuse.
 use Rattle.sharing.specs.Claims.{AlwaysCarried, UncarriedOneValue, CarriedPasses, OpeningExactly, QuorumRecovers}
-use Rattle.verdicts.specs.Claims.{SameDrawHere}
+use Rattle.demand3.specs.Claims.{SameDrawHere}
 
 pub record Demand3 : Type 0 where
   -- A. With n = t there is no place of a check polynomial, and some polynomial of degree below t carries any n elements.

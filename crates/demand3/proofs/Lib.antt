@@ -1,0 +1,6 @@
+-- Proofs of what specs/Claims.antt and specs/Demand3.antt state.
+pub mod Sources
+pub mod VerdictCases
+pub mod Endings
+pub mod TwoBoards
+pub mod Demand3

@@ -1,0 +1,2 @@
+-- The proof of the table in specs/Figures.antt.
+pub mod Table

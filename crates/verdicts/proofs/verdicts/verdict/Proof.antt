@@ -1,0 +1,81 @@
+-- `verdict` meets its contract: the number of his lines decides, and then the judge's answer on them.
+use mathlib.Core.Path.{_∙_}
+use borrow.Author.Needs.{needs}
+use Rattle.verdicts.proofs.VerdictAnswers.{no-lines, not-all-lines, all-lines, dealing-refused, dealing-accepted}
+use Rattle.verdicts.proofs.verdicts.verdict.Statement.{statement}
+use Rattle.verdicts.proofs.verdicts.verdict.Tie as tie
+
+lines-of-requires : tie.Need-lines-of-requires
+lines-of-requires c κs = search needs
+
+records-requires : tie.Need-records-requires
+records-requires c κs = search needs
+
+returns : tie.Need-returns
+returns c =
+    let l = c .before .before in
+    let w = l .before .before .before in
+    no-lines (w .args .rd) (w .args .b .now) (w .args .d) (w .pre .1) (l .lines-of .ensures) (c .before .records .ensures) (c .if1 .taken)
+
+cast-if2 : tie.Need-cast-if2
+cast-if2 c = search needs
+
+returns-2 : tie.Need-returns-2
+returns-2 c =
+    let i = c .before .before in
+    let l = i .before .before in
+    let w = l .before .before .before in
+    not-all-lines (w .args .rd) (w .args .b .now) (w .args .d) (w .pre .1) (l .lines-of .ensures) (i .before .records .ensures) (i .if1 .left) (c .if2 .taken)
+
+judge-dealing-requires : tie.Need-judge-dealing-requires
+judge-dealing-requires c κs = search needs
+
+enum-known-k : tie.Need-enum-known-k
+enum-known-k c = search needs
+
+enum-told : tie.Need-enum-told
+enum-told c = search needs
+
+secret-requires : tie.Need-secret-requires
+secret-requires c κs =
+    let i = c .before .before .before in
+    let r = i .before .before .before in
+    let l = r .before in
+    let w = l .before .before .before in
+    (w .pre .0, all-lines (w .args .rd) (w .args .b .now) (w .args .d) (w .pre .1) (l .lines-of .ensures) (r .records .ensures) (i .if2 .left))
+
+returns-3 : tie.Need-returns-3
+returns-3 c =
+    let j = c .before .before .before in
+    let i = j .before in
+    let r = i .before .before .before in
+    let l = r .before in
+    let w = l .before .before .before in
+    dealing-refused (w .args .rd) (w .args .b .now) (w .args .d) (w .pre .1) (l .lines-of .ensures) (r .records .ensures) (i .before .before .if1 .left) (i .if2 .left) (w .pre .2)
+    (j .judge-dealing .ensures) (c .before .k .given .1)
+
+returns-4 : tie.Need-returns-4
+returns-4 c =
+    let j = c .before .before .before in
+    let i = j .before in
+    let r = i .before .before .before in
+    let l = r .before in
+    let w = l .before .before .before in
+    dealing-accepted (w .args .rd) (w .args .b .now) (w .args .d) (w .pre .1) (l .lines-of .ensures) (r .records .ensures) (i .before .before .if1 .left) (i .if2 .left) (w .pre .2)
+    (j .judge-dealing .ensures) (c .before .enum-told .given .1) (c .secret .ensures)
+
+pub verdict-spec : {M : Type 1} → statement M
+verdict-spec =
+    tie.close
+    (tie.spec
+    lines-of-requires
+    records-requires
+    returns
+    cast-if2
+    returns-2
+    judge-dealing-requires
+    enum-known-k
+    enum-told
+    secret-requires
+    returns-3
+    returns-4)
