@@ -24,5 +24,5 @@ fn main() {
     let a = read_file(b"round.set", &mut set);
     let b = read_file(b"board.bin", &mut board);
     let n = text::draw_text(&set[..a], &board[..b], &mut out);
-    io::write_all(STDOUT_FILENO, &out[..n]);
+    io::write_all(STDOUT_FILENO, &out[0..n]);
 }

@@ -33,11 +33,12 @@ grow d (suc i) zero ss h = absurd (not-suc-le-zero h)
 grow d (suc i) (suc n) [] h = omega arith
 grow d (suc i) (suc n) (s ∷ ss) h =
     let l = dealerLine d (verdictAt s) in
-    omega
-    (arith,
-    length-append l (dealerLines (suc d) (verdictsAt i ss)),
-    length-append l (dealerLines (suc d) (verdictsAt n ss)),
-    grow (suc d) i n ss (le-of-suc-le-suc h))
+    omega (
+      arith,
+      length-append l (dealerLines (suc d) (verdictsAt i ss)),
+      length-append l (dealerLines (suc d) (verdictsAt n ss)),
+      grow (suc d) i n ss (le-of-suc-le-suc h),
+    )
 
 -- ---- the turn of the loop over the dealers
 module _ (k i n : ℕ) (ss : List Seat) (z : Seat) {l m : List ℕ} {j : ℕ}

@@ -48,8 +48,8 @@ unfolding reportFrom report
 report-same J R b A h e a =
     let t = eq-eqb (refusal (boardChecks R b)) 0 e in
     let vs : verdictsAt (R .n) (A .seats) ≡ verdictsOn J R b =
-        ap (verdictsAt (R .n)) (a .seats ∙ pick-true (eqb (refusal (boardChecks R b)) 0) _ _ t)
-        ∙ seats-verdicts (verdictOn J R b) (R .n) h in
+    ap (verdictsAt (R .n)) (a .seats ∙ pick-true (eqb (refusal (boardChecks R b)) 0) _ _ t)
+    ∙ seats-verdicts (verdictOn J R b) (R .n) h in
     let m : A .accepted ≡ countAccepted (verdictsOn J R b) = a .accepted ∙ pick-true (eqb (refusal (boardChecks R b)) 0) _ _ t in
     λ j. roundLine R ++ (dealerLines 1 (vs j) ++ (acceptedLine (m j) ++ drawLine (a .draw j)))
 

@@ -29,16 +29,16 @@ module _ {k : ℕ} {l : List ℕ} (xs ys : List ℕ) (room : Room k (xs ++ ys) l
     room-rest =
         record {
           fits =
-            omega (arith, room .fits, w .behind, length-append xs ys, ap length (w .bytes), put-length k xs l (room-first .fits));
+              omega (arith, room .fits, w .behind, length-append xs ys, ap length (w .bytes), put-length k xs l (room-first .fits));
         }
 
     pub both : {n : List ℕ} {j : ℕ} → Written i ys m n j → Written k (xs ++ ys) l n j
     both {n} {j} v =
         record {
           bytes =
-            v .bytes
-            ∙ ap (putAt i ys) (w .bytes)
-            ∙ put-put k i xs ys l (w .behind) (omega (arith, w .behind, room-first .fits));
+              v .bytes
+              ∙ ap (putAt i ys) (w .bytes)
+              ∙ put-put k i xs ys l (w .behind) (omega (arith, w .behind, room-first .fits));
           behind = omega (arith, v .behind, w .behind, length-append xs ys);
         }
 
@@ -81,7 +81,7 @@ module _ (k : ℕ) (xs l : List ℕ) (room : Room k xs l) where
       let e : take (i + 1) xs ≡ take i xs ++ (getD xs i 0 ∷ []) = rw add-one (take-suc xs i 0 h) in
       let s = length-take-le i xs (omega arith) in
       let fits : Room k (take i xs ++ (getD xs i 0 ∷ [])) l =
-          record { fits = omega (arith, room .fits, length-append (take i xs) (getD xs i 0 ∷ [])) } in
+      record { fits = omega (arith, room .fits, length-append (take i xs) (getD xs i 0 ∷ [])) } in
       let one = written-one (k + i) (getD xs i 0) m (omega (arith, room-rest (take i xs) _ fits w .fits)) in
       let o : k + i + 1 ≡ k + (i + 1) = omega arith in
       rw (e, ← o) (both (take i xs) _ fits w one)

@@ -36,8 +36,7 @@ loop-less c = omega arith
 loop-again : tie.Need-loop-again Inv-loop μ-loop
 loop-again c =
     let s = c .before .before .loop in
-    let a = c .before .before .before .args in
-    (
+    let a = c .before .before .before .args in (
       omega arith,
       simp length-set (omega arith),
       next-byte (a .at) (a .text .now) (a .out .now) (c .before .before .before .pre) (s .i) (omega arith) (s .inv .2),

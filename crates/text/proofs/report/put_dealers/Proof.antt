@@ -49,12 +49,11 @@ loop-again : tie.Need-loop-again Inv-loop μ-loop
 loop-again c =
     let d = c .before .before in
     let t = d .before .before .before .before in
-    let s = t .before .before in
-    (
+    let s = t .before .before in (
       omega arith,
       omega (arith, d .put-dealer .kept .0),
       line-written (s .args .at) (t .loop .i) (s .args .n) (s .args .t4) _ (s .pre .1) (omega arith) (omega arith) (t .loop .inv .2)
-      (d .put-dealer .ensures),
+          (d .put-dealer .ensures),
     )
 
 same-length : tie.Need-same-length Inv-loop μ-loop
