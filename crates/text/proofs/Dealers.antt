@@ -1,11 +1,10 @@
 -- The lines of the dealers: one more behind the others, and the verdicts in the board judge's seats.
-use mathlib.Core.Path.{_≡_, refl, sym, ap, _∙_}
+use mathlib.Core.Path.{_≡_, sym, ap, _∙_}
 use mathlib.Core.List.{List, [], _∷_, _++_, append-assoc, append-nil}
 use Prim.Native.Nat.{ℕ, zero, suc, _+_, _≤_, _<_}
 use native.Mathlib.Nat.{le-of-suc-le-suc, not-suc-le-zero}
 use native.Mathlib.Omega.{arith}
-use lib.ListN.{length, getD, take, length-append}
-use Rattle.verdicts.specs.declared.Verdict.{Verdict}
+use lib.ListN.{length, getD, length-append}
 use Rattle.verdicts.specs.declared.Seat.{Seat}
 use Rattle.text.specs.Text.{dealerLine, dealerLines}
 use Rattle.text.specs.Buffer.{Room, Written}

@@ -1,10 +1,10 @@
 -- `put_dealers` meets its contract: after i turns the lines of the first i dealers are written.
 use mathlib.Core.Path.{_≡_, refl, sym, ap}
-use Prim.Native.Nat.{ℕ, _+_, _-_, _≤_}
+use Prim.Native.Nat.{ℕ, _-_, _≤_}
 use native.Mathlib.Omega.{arith}
 use lib.ListN.{length}
 use Rattle.text.specs.Text.{dealerLines}
-use Rattle.text.specs.Buffer.{Room, Written}
+use Rattle.text.specs.Buffer.{Written}
 use Rattle.text.specs.Report.{verdictsAt}
 use Rattle.text.proofs.Writing.{written-none, written-as}
 use Rattle.text.proofs.Dealers.{line-room, line-written}
