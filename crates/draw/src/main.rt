@@ -1,4 +1,5 @@
 // Reads round.set and board.bin from the current folder, and writes the text of the draw to standard output.
+ghost use Rattle.io.specs.Counts.{Counts};
 use libc::STDOUT_FILENO;
 
 // Reads a file to the start of `space` until it ends or the space is full, and answers how many bytes that is. A missing file counts as
@@ -23,5 +24,5 @@ fn main() {
     let a = read_file(b"round.set", &mut set);
     let b = read_file(b"board.bin", &mut board);
     let n = text::draw_text(&set[..a], &board[..b], &mut out);
-    io::write_all(STDOUT_FILENO, &out[..n]);
+    io::write_all(STDOUT_FILENO, &out[0..n]);
 }

@@ -1,11 +1,10 @@
 -- The lines of the dealers: one more behind the others, and the verdicts in the board judge's seats.
-use mathlib.Core.Path.{_≡_, refl, sym, ap, _∙_}
+use mathlib.Core.Path.{_≡_, sym, ap, _∙_}
 use mathlib.Core.List.{List, [], _∷_, _++_, append-assoc, append-nil}
 use Prim.Native.Nat.{ℕ, zero, suc, _+_, _≤_, _<_}
 use native.Mathlib.Nat.{le-of-suc-le-suc, not-suc-le-zero}
 use native.Mathlib.Omega.{arith}
-use lib.ListN.{length, getD, take, length-append}
-use Rattle.verdicts.specs.declared.Verdict.{Verdict}
+use lib.ListN.{length, getD, length-append}
 use Rattle.verdicts.specs.declared.Seat.{Seat}
 use Rattle.text.specs.Text.{dealerLine, dealerLines}
 use Rattle.text.specs.Buffer.{Room, Written}
@@ -33,11 +32,12 @@ grow d (suc i) zero ss h = absurd (not-suc-le-zero h)
 grow d (suc i) (suc n) [] h = omega arith
 grow d (suc i) (suc n) (s ∷ ss) h =
     let l = dealerLine d (verdictAt s) in
-    omega
-    (arith,
-    length-append l (dealerLines (suc d) (verdictsAt i ss)),
-    length-append l (dealerLines (suc d) (verdictsAt n ss)),
-    grow (suc d) i n ss (le-of-suc-le-suc h))
+    omega (
+      arith,
+      length-append l (dealerLines (suc d) (verdictsAt i ss)),
+      length-append l (dealerLines (suc d) (verdictsAt n ss)),
+      grow (suc d) i n ss (le-of-suc-le-suc h),
+    )
 
 -- ---- the turn of the loop over the dealers
 module _ (k i n : ℕ) (ss : List Seat) (z : Seat) {l m : List ℕ} {j : ℕ}

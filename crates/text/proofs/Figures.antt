@@ -99,8 +99,9 @@ short-figure v h = go (ltb v 10) refl
     go true e = omega (arith, ap length (digits-one 9 v (ltb-true v 10 e)))
     go false e =
         let s : v / 10 < 10 = omega arith in
-        omega
-        (arith,
-        ap length (digits-last 9 v (ltb-false v 10 e)),
-        length-append (digits 9 (v / 10)) ((48 + v % 10) ∷ []),
-        ap length (digits-one 8 (v / 10) s))
+        omega (
+          arith,
+          ap length (digits-last 9 v (ltb-false v 10 e)),
+          length-append (digits 9 (v / 10)) ((48 + v % 10) ∷ []),
+          ap length (digits-one 8 (v / 10) s),
+        )

@@ -1,22 +1,22 @@
 -- No text is longer than 1,024 bytes.
-use mathlib.Core.Path.{_≡_, refl, sym, ap, _∙_}
+use mathlib.Core.Path.{_≡_, refl, ap, _∙_}
 use mathlib.Core.Bool.{Bool, true, false}
 use mathlib.Core.List.{List, [], _∷_, _++_}
 use Prim.Native.Nat.{ℕ, suc, _+_, _*_, _≤_, _<_}
 use native.Mathlib.Omega.{arith}
 use borrow.Author.Tests.{eqb-true}
-use lib.ListN.{length, length-append}
+use lib.ListN.{length, drop, length-append}
 use lib.Dec.{eqb}
 use Rattle.words.specs.Choice.{pick}
 use Rattle.words.specs.Checks.{Outcome, value, refused, refusal, Met}
 use Rattle.words.proofs.Lists.{map-length, up-length}
-use Rattle.words.proofs.Tests.{pick-true, pick-false}
+use Rattle.words.proofs.Checks.{none-exactly}
 use Rattle.group.specs.declared.Element.{Element}
-use Rattle.group.specs.Table.{isGroup}
-use Rattle.sharing.specs.Round.{roundChecks, isRound, groupIn, members}
+use Rattle.sharing.specs.Round.{roundChecks, members}
 use Rattle.sharing.specs.declared.Round.{Round}
 use Rattle.sharing.proofs.Rounds.{ready}
 use Rattle.board.specs.Board.{boardChecks}
+use Rattle.board.proofs.Numbers.{board-numbered}
 use Rattle.verdicts.specs.Verdict.{Judges, verdictOn, verdictsOn}
 use Rattle.verdicts.specs.Draw.{countAccepted, drawOn}
 use Rattle.verdicts.specs.declared.Secret.{Secret}
@@ -49,22 +49,24 @@ verdict-most (Accepted s) = secret-most s
 dealer-most : (d : ℕ) (v : Verdict) → d < 100 → length (dealerLine d v) ≤ 31
 unfolding dealerLine
 dealer-most d v h =
-    omega
-    (arith,
-    length-append (dealerWord ++ figure d) (32 ∷ (verdictText v ++ newLine)),
-    length-append dealerWord (figure d),
-    length-append (verdictText v) newLine,
-    short-figure d h,
-    verdict-most v)
+    omega (
+      arith,
+      length-append (dealerWord ++ figure d) (32 ∷ (verdictText v ++ newLine)),
+      length-append dealerWord (figure d),
+      length-append (verdictText v) newLine,
+      short-figure d h,
+      verdict-most v,
+    )
 
 dealers-most : (d : ℕ) (vs : List Verdict) → d + length vs ≤ 100 → length (dealerLines d vs) ≤ 31 * length vs
 dealers-most d [] h = omega arith
 dealers-most d (v ∷ vs) h =
-    omega
-    (arith,
-    length-append (dealerLine d v) (dealerLines (suc d) vs),
-    dealer-most d v (omega arith),
-    dealers-most (suc d) vs (omega arith))
+    omega (
+      arith,
+      length-append (dealerLine d v) (dealerLines (suc d) vs),
+      dealer-most d v (omega arith),
+      dealers-most (suc d) vs (omega arith),
+    )
 
 pub refused-most : (k : ℕ) → length (refusedLine k) ≤ 19
 unfolding refusedLine
@@ -77,24 +79,20 @@ draw-most (refused k) = refused-most k
 round-most : (R : Round) → R .n < 100 → R .t < 100 → length (roundLine R) ≤ 23
 unfolding roundLine
 round-most R h g =
-    omega
-    (arith,
-    length-append (roundWord ++ figure (R .group)) (figure (R .n) ++ (figure (R .t) ++ newLine)),
-    worded-most roundWord (R .group),
-    length-append (figure (R .n)) (figure (R .t) ++ newLine),
-    length-append (figure (R .t)) newLine,
-    short-figure (R .n) h,
-    short-figure (R .t) g)
+    omega (
+      arith,
+      length-append (roundWord ++ figure (R .group)) (figure (R .n) ++ (figure (R .t) ++ newLine)),
+      worded-most roundWord (R .group),
+      length-append (figure (R .n)) (figure (R .t) ++ newLine),
+      length-append (figure (R .t)) newLine,
+      short-figure (R .n) h,
+      short-figure (R .t) g,
+    )
 
 -- ---- the text
 -- a board whose verdicts are reached has a proper round
 pub reached-round : (R : Round) (b : List ℕ) → refusal (boardChecks R b) ≡ 0 → Met (roundChecks R)
-reached-round R b = go (isGroup (R .group)) (isRound (groupIn R) (R .n) (R .t)) refl refl
-  where
-    go : (x y : Bool) → isGroup (R .group) ≡ x → isRound (groupIn R) (R .n) (R .t) ≡ y → refusal (boardChecks R b) ≡ 0 → Met (roundChecks R)
-    go true true e f z = (e, (f, tt))
-    go true false e f z = absurd (omega (arith, sym (pick-true (isGroup (R .group)) _ _ e ∙ pick-false (isRound (groupIn R) (R .n) (R .t)) _ 2 f) ∙ z))
-    go false y e f z = absurd (omega (arith, sym (pick-false (isGroup (R .group)) _ 1 e) ∙ z))
+reached-round R b e = let m = none-exactly (boardChecks R b) (board-numbered R b) .0 e in (m .0, (m .1 .0, tt))
 
 module _ (J : Judges) where
   report-most : (R : Round) (b : List ℕ) → Met (roundChecks R) → length (report J R b) ≤ 1024
@@ -105,15 +103,16 @@ module _ (J : Judges) where
       let s : length vs ≡ R .n = map-length (verdictOn J R b) (members (R .n)) ∙ up-length 1 (R .n) in
       let ds = dealerLines 1 vs in
       let al = acceptedWord ++ (figure (countAccepted vs) ++ newLine) in
-      omega
-      (arith,
-      length-append (roundLine R) (ds ++ (al ++ drawLine (drawOn J R b))),
-      length-append ds (al ++ drawLine (drawOn J R b)),
-      length-append al (drawLine (drawOn J R b)),
-      round-most R (omega arith) (omega arith),
-      dealers-most 1 vs (omega arith),
-      line-most acceptedWord (countAccepted vs),
-      draw-most (drawOn J R b))
+      omega (
+        arith,
+        length-append (roundLine R) (ds ++ (al ++ drawLine (drawOn J R b))),
+        length-append ds (al ++ drawLine (drawOn J R b)),
+        length-append al (drawLine (drawOn J R b)),
+        round-most R (omega arith) (omega arith),
+        dealers-most 1 vs (omega arith),
+        line-most acceptedWord (countAccepted vs),
+        draw-most (drawOn J R b),
+      )
 
   pub board-most : (R : Round) (b : List ℕ) → length (boardText J R b) ≤ 1024
   unfolding boardText
@@ -131,3 +130,7 @@ text-fits J s b = go (eqb (refusal (setChecks s)) 0)
     go : (x : Bool) → length (pick x (boardText J (roundIn s) b) (refusedLine (refusal (setChecks s)))) ≤ 1024
     go true = board-most J (roundIn s) b
     go false = omega (arith, refused-most (refusal (setChecks s)))
+
+-- what `draw_text` answers is within the buffer
+pub text-within : (J : Judges) (s b l m : List ℕ) (r : ℕ) → (r ≡ length (drawText J s b)) × (m ≡ drawText J s b ++ drop r l) → r ≤ length m
+text-within J s b l m r e = omega (arith, e .0, ap length (e .1), length-append (drawText J s b) (drop r l))

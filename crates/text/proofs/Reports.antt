@@ -1,7 +1,7 @@
 -- What is written from the board judge's answer is the report on the board, and which text is due by what is refused.
 use mathlib.Core.Path.{_≡_, refl, sym, ap, _∙_}
 use mathlib.Core.Bool.{Bool, true, false}
-use mathlib.Core.List.{List, [], _∷_, _++_}
+use mathlib.Core.List.{List, _∷_, _++_}
 use Prim.Native.Nat.{ℕ, zero, suc, _+_, _≤_}
 use native.Mathlib.Nat.{le-of-suc-le-suc, not-suc-le-zero}
 use native.Mathlib.Omega.{arith}
@@ -11,12 +11,11 @@ use lib.Dec.{eqb, leb}
 use Rattle.words.specs.Lists.{map, upFrom}
 use Rattle.words.specs.Checks.{refusal}
 use Rattle.words.proofs.Tests.{pick-true, pick-false}
-use Rattle.group.specs.Answer.{elementOutcomeOf}
 use Rattle.sharing.specs.Round.{members}
 use Rattle.sharing.specs.declared.Round.{Round}
 use Rattle.board.specs.Board.{boardChecks}
 use Rattle.verdicts.specs.Verdict.{Judges, verdictOn, verdictsOn}
-use Rattle.verdicts.specs.Draw.{countAccepted, drawOn, seatOf, seatsOf, JudgedAs}
+use Rattle.verdicts.specs.Draw.{countAccepted, seatOf, seatsOf, JudgedAs}
 use Rattle.verdicts.specs.declared.Verdict.{Verdict}
 use Rattle.verdicts.specs.declared.Verdict.the-variants.{None}
 use Rattle.verdicts.specs.declared.Seat.{Seat}
@@ -48,8 +47,8 @@ unfolding reportFrom report
 report-same J R b A h e a =
     let t = eq-eqb (refusal (boardChecks R b)) 0 e in
     let vs : verdictsAt (R .n) (A .seats) ≡ verdictsOn J R b =
-        ap (verdictsAt (R .n)) (a .seats ∙ pick-true (eqb (refusal (boardChecks R b)) 0) _ _ t)
-        ∙ seats-verdicts (verdictOn J R b) (R .n) h in
+    ap (verdictsAt (R .n)) (a .seats ∙ pick-true (eqb (refusal (boardChecks R b)) 0) _ _ t)
+    ∙ seats-verdicts (verdictOn J R b) (R .n) h in
     let m : A .accepted ≡ countAccepted (verdictsOn J R b) = a .accepted ∙ pick-true (eqb (refusal (boardChecks R b)) 0) _ _ t in
     λ j. roundLine R ++ (dealerLines 1 (vs j) ++ (acceptedLine (m j) ++ drawLine (a .draw j)))
 

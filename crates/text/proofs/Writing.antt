@@ -1,7 +1,7 @@
 -- Text written one piece behind the other: where each piece finds room, and what they are together.
 use mathlib.Core.Path.{_≡_, refl, sym, ap, _∙_, subst}
 use mathlib.Core.List.{List, [], _∷_, _++_}
-use Prim.Native.Nat.{ℕ, suc, _+_, _≤_, _<_}
+use Prim.Native.Nat.{ℕ, _+_, _≤_, _<_}
 use native.Mathlib.Numerals.{add-one}
 use native.Mathlib.Omega.{arith}
 use lib.ListN.{length, getD, take, drop, set, length-append}
@@ -29,16 +29,16 @@ module _ {k : ℕ} {l : List ℕ} (xs ys : List ℕ) (room : Room k (xs ++ ys) l
     room-rest =
         record {
           fits =
-            omega (arith, room .fits, w .behind, length-append xs ys, ap length (w .bytes), put-length k xs l (room-first .fits));
+              omega (arith, room .fits, w .behind, length-append xs ys, ap length (w .bytes), put-length k xs l (room-first .fits));
         }
 
     pub both : {n : List ℕ} {j : ℕ} → Written i ys m n j → Written k (xs ++ ys) l n j
     both {n} {j} v =
         record {
           bytes =
-            v .bytes
-            ∙ ap (putAt i ys) (w .bytes)
-            ∙ put-put k i xs ys l (w .behind) (omega (arith, w .behind, room-first .fits));
+              v .bytes
+              ∙ ap (putAt i ys) (w .bytes)
+              ∙ put-put k i xs ys l (w .behind) (omega (arith, w .behind, room-first .fits));
           behind = omega (arith, v .behind, w .behind, length-append xs ys);
         }
 
@@ -81,7 +81,7 @@ module _ (k : ℕ) (xs l : List ℕ) (room : Room k xs l) where
       let e : take (i + 1) xs ≡ take i xs ++ (getD xs i 0 ∷ []) = rw add-one (take-suc xs i 0 h) in
       let s = length-take-le i xs (omega arith) in
       let fits : Room k (take i xs ++ (getD xs i 0 ∷ [])) l =
-          record { fits = omega (arith, room .fits, length-append (take i xs) (getD xs i 0 ∷ [])) } in
+      record { fits = omega (arith, room .fits, length-append (take i xs) (getD xs i 0 ∷ [])) } in
       let one = written-one (k + i) (getD xs i 0) m (omega (arith, room-rest (take i xs) _ fits w .fits)) in
       let o : k + i + 1 ≡ k + (i + 1) = omega arith in
       rw (e, ← o) (both (take i xs) _ fits w one)

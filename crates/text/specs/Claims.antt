@@ -12,9 +12,11 @@ abbrev pub TextFits : Type 0
 TextFits = (J : Judges) (s b : List ℕ) → length (drawText J s b) ≤ 1024
 
 -- ---- the example round: group 1, n = 2, t = 1, and a board of the keys 12 and 9
+-- its round.set
 abbrev pub exampleSet : List ℕ
 exampleSet = recordBytes (record { w0 = 9; w1 = 1; w2 = 2; w3 = 1; w4 = 0; w5 = 0; w6 = 0; w7 = 0 })
 
+-- its board.bin
 abbrev pub exampleBoard : List ℕ
 exampleBoard =
     recordBytes (record { w0 = 1; w1 = 0; w2 = 1; w3 = 12; w4 = 0; w5 = 0; w6 = 0; w7 = 0 })

@@ -10,6 +10,7 @@ use Rattle.verdicts.specs.declared.Seat.{Seat}
 use Rattle.verdicts.specs.declared.Judged.{Judged}
 use Rattle.text.specs.Text.{dealerLines, drawLine, roundLine, acceptedLine}
 
+-- the verdict that a seat holds
 abbrev pub verdictAt : Seat → Verdict
 verdictAt s = s .verdict
 
@@ -17,6 +18,7 @@ verdictAt s = s .verdict
 abbrev pub verdictsAt : ℕ → List Seat → List Verdict
 verdictsAt n ss = map verdictAt (take n ss)
 
+-- the four parts of the report, in their order
 unfoldable pub reportFrom : Round → Judged → List ℕ
 reportFrom R A =
     roundLine R ++ (dealerLines 1 (verdictsAt (R .n) (A .seats)) ++ (acceptedLine (A .accepted) ++ drawLine (elementOutcomeOf (A .draw))))

@@ -1,5 +1,5 @@
 -- What `draw` prints: the one place where the format of its output stands.
-use mathlib.Core.Bool.{Bool, true, false, _&&_}
+use mathlib.Core.Bool.{Bool, _&&_}
 use mathlib.Core.List.{List, [], _∷_, _++_}
 use Prim.Native.Nat.{ℕ, zero, suc, _+_, _/_, _%_}
 use lib.ListN.{length}
@@ -28,6 +28,7 @@ digits (suc k) v = pick (ltb v 10) ((48 + v) ∷ []) (digits k (v / 10) ++ ((48 
 unfoldable pub figure : ℕ → List ℕ
 figure v = 32 ∷ digits 10 v
 
+-- the end of a line
 abbrev pub newLine : List ℕ
 newLine = 10 ∷ []
 
@@ -60,6 +61,7 @@ abbrev pub stuckWord : List ℕ
 stuckWord = 115 ∷ 116 ∷ 117 ∷ 99 ∷ 107 ∷ []
 
 -- ---- lines
+-- a refusal by the number k
 unfoldable pub refusedLine : ℕ → List ℕ
 refusedLine k = refusedWord ++ (figure k ++ newLine)
 
@@ -69,11 +71,13 @@ secretText (Opened v) = openedWord ++ figure (v .0)
 secretText (Recovered v) = recoveredWord ++ figure (v .0)
 secretText Stuck = stuckWord
 
+-- a verdict: none, refused with its number, or how the secret came
 abbrev pub verdictText : Verdict → List ℕ
 verdictText None = noneWord
 verdictText (Refused k) = refusedWord ++ figure k
 verdictText (Accepted s) = secretText s
 
+-- the verdict on the dealer d
 unfoldable pub dealerLine : ℕ → Verdict → List ℕ
 dealerLine d v = (dealerWord ++ figure d) ++ ((32 ∷ []) ++ (verdictText v ++ newLine))
 
@@ -82,13 +86,16 @@ abbrev pub dealerLines : ℕ → List Verdict → List ℕ
 dealerLines d [] = []
 dealerLines d (v ∷ vs) = dealerLine d v ++ dealerLines (suc d) vs
 
+-- the last line: the draw value, or a refusal
 abbrev pub drawLine : Outcome Element → List ℕ
 drawLine (value v) = drawWord ++ (figure (v .0) ++ newLine)
 drawLine (refused k) = refusedLine k
 
+-- the first line: group, n, t
 unfoldable pub roundLine : Round → List ℕ
 roundLine R = (roundWord ++ figure (R .group)) ++ (figure (R .n) ++ (figure (R .t) ++ newLine))
 
+-- the count of accepted dealings
 unfoldable pub acceptedLine : ℕ → List ℕ
 acceptedLine m = acceptedWord ++ (figure m ++ newLine)
 
@@ -103,12 +110,15 @@ unfoldable pub boardText : Judges → Round → List ℕ → List ℕ
 boardText J R b = pick (eqb (refusal (boardChecks R b)) 0) (report J R b) (refusedLine (refusal (boardChecks R b)))
 
 -- ---- round.set: one record, 9, group, n, t, zeros
+-- kind 9, the words behind t spare
 unfoldable pub isSetRecord : Record → Bool
 isSetRecord r = eqb (r .w0) 9 && isSpare r
 
+-- another length by 3, another shape by 4
 abbrev pub setChecks : List ℕ → List Check
 setChecks s = 3 unless eqb (length s) 32 ∷ 4 unless isSetRecord (recordIn s) ∷ []
 
+-- the round of its record
 abbrev pub roundIn : List ℕ → Round
 roundIn s = record { group = recordIn s .w1; n = recordIn s .w2; t = recordIn s .w3 }
 

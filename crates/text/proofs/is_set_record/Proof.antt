@@ -3,7 +3,6 @@ use mathlib.Core.Path.{refl}
 use mathlib.Core.Bool.{_&&_}
 use borrow.Author.Tests.{eq-eqb, ne-eqb}
 use lib.Dec.{eqb}
-use Rattle.posted.specs.Records.{isSpare}
 use Rattle.posted.proofs.Conjunctions.{and-held, and-failed, and-met, and-third}
 use Rattle.text.specs.Text.{isSetRecord}
 use Rattle.text.proofs.is_set_record.Statement.{statement}

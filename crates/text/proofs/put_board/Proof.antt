@@ -47,7 +47,7 @@ put-report-requires c κs =
     let z = sym (k .board-refusal .ensures) ∙ c .before .before .if1 .left in
     let most = ready (a .rd) (reached-round (a .rd) (a .board .now) z) .at-most in
     let e = board-reported judges (a .rd) (a .board .now) z
-        ∙ sym (report-same judges (a .rd) (a .board .now) (c .judge-board .result) most z (c .judge-board .ensures)) in
+    ∙ sym (report-same judges (a .rd) (a .board .now) (c .judge-board .result) most z (c .judge-board .ensures)) in
     (most, room-as e (record { fits = omega (arith, board-most judges (a .rd) (a .board .now), s .pre) }))
 
 same-length-2 : tie.Need-same-length-2

@@ -1,10 +1,9 @@
 -- `put_bytes` meets its contract: after i turns the first i bytes are written.
 use mathlib.Core.Path.{_≡_, refl}
-use mathlib.Core.List.{List}
-use Prim.Native.Nat.{ℕ, _+_, _-_, _≤_}
+use Prim.Native.Nat.{_+_, _-_, _≤_}
 use native.Mathlib.Omega.{arith}
 use lib.ListN.{length, take, length-set}
-use Rattle.text.specs.Buffer.{Room, Written}
+use Rattle.text.specs.Buffer.{Written}
 use Rattle.text.proofs.Writing.{written-none, next-byte, all-bytes}
 use Rattle.text.proofs.buffer.put_bytes.Statement.{statement}
 use Rattle.text.proofs.buffer.put_bytes.Tie as tie
@@ -36,8 +35,7 @@ loop-less c = omega arith
 loop-again : tie.Need-loop-again Inv-loop μ-loop
 loop-again c =
     let s = c .before .before .loop in
-    let a = c .before .before .before .args in
-    (
+    let a = c .before .before .before .args in (
       omega arith,
       simp length-set (omega arith),
       next-byte (a .at) (a .text .now) (a .out .now) (c .before .before .before .pre) (s .i) (omega arith) (s .inv .2),

@@ -1,10 +1,10 @@
 -- `put_dealers` meets its contract: after i turns the lines of the first i dealers are written.
 use mathlib.Core.Path.{_≡_, refl, sym, ap}
-use Prim.Native.Nat.{ℕ, _+_, _-_, _≤_}
+use Prim.Native.Nat.{ℕ, _-_, _≤_}
 use native.Mathlib.Omega.{arith}
 use lib.ListN.{length}
 use Rattle.text.specs.Text.{dealerLines}
-use Rattle.text.specs.Buffer.{Room, Written}
+use Rattle.text.specs.Buffer.{Written}
 use Rattle.text.specs.Report.{verdictsAt}
 use Rattle.text.proofs.Writing.{written-none, written-as}
 use Rattle.text.proofs.Dealers.{line-room, line-written}
@@ -49,12 +49,11 @@ loop-again : tie.Need-loop-again Inv-loop μ-loop
 loop-again c =
     let d = c .before .before in
     let t = d .before .before .before .before in
-    let s = t .before .before in
-    (
+    let s = t .before .before in (
       omega arith,
       omega (arith, d .put-dealer .kept .0),
       line-written (s .args .at) (t .loop .i) (s .args .n) (s .args .t4) _ (s .pre .1) (omega arith) (omega arith) (t .loop .inv .2)
-      (d .put-dealer .ensures),
+          (d .put-dealer .ensures),
     )
 
 same-length : tie.Need-same-length Inv-loop μ-loop

@@ -1,6 +1,6 @@
 -- `put_report` meets its contract: the four parts are written one behind the other.
 use mathlib.Core.Path.{refl, _∙_}
-use mathlib.Core.List.{List, _++_}
+use mathlib.Core.List.{List}
 use Prim.Native.Nat.{ℕ}
 use Rattle.group.specs.Answer.{elementOutcomeOf}
 use Rattle.sharing.specs.declared.Round.{Round}

@@ -1,0 +1,74 @@
+-- The program is safe: the text that is written lies within the buffer.
+use borrow.Author.Needs.{needs}
+use Rattle.text.proofs.Lengths.{text-within}
+use Rattle.draw.proofs.main.Statement.{statement}
+use Rattle.draw.proofs.main.Tie as tie
+
+slice-aggregate-read-file : tie.Need-slice-aggregate-read-file
+slice-aggregate-read-file c = search needs
+
+slice-aggregate-read-file-2 : tie.Need-slice-aggregate-read-file-2
+slice-aggregate-read-file-2 c = search needs
+
+read-file-requires : tie.Need-read-file-requires
+read-file-requires c κs = search needs
+
+slice-aggregate-read-file-3 : tie.Need-slice-aggregate-read-file-3
+slice-aggregate-read-file-3 c = search needs
+
+slice-aggregate-read-file-4 : tie.Need-slice-aggregate-read-file-4
+slice-aggregate-read-file-4 c = search needs
+
+read-file-requires-2 : tie.Need-read-file-requires-2
+read-file-requires-2 c κs = search needs
+
+array-share-prefix-set : tie.Need-array-share-prefix-set
+array-share-prefix-set c = search needs
+
+slice-aggregate-draw-text : tie.Need-slice-aggregate-draw-text
+slice-aggregate-draw-text c = search needs
+
+array-share-prefix-board : tie.Need-array-share-prefix-board
+array-share-prefix-board c = search needs
+
+slice-aggregate-draw-text-2 : tie.Need-slice-aggregate-draw-text-2
+slice-aggregate-draw-text-2 c = search needs
+
+draw-text-requires : tie.Need-draw-text-requires
+draw-text-requires c κs = tt
+
+sub-write-all : tie.Need-sub-write-all
+sub-write-all c = search needs
+
+part-write-all-start : tie.Need-part-write-all-start
+part-write-all-start c = search needs
+
+part-write-all-end : tie.Need-part-write-all-end
+part-write-all-end c = text-within _ _ _ _ _ _ (c .before .draw-text .ensures)
+
+write-all-requires : tie.Need-write-all-requires
+write-all-requires c κs = search needs
+
+returns : tie.Need-returns
+returns c = search needs
+
+pub main-spec : {M : Type 1} → statement M
+main-spec =
+    tie.close
+    (tie.spec
+    slice-aggregate-read-file
+    slice-aggregate-read-file-2
+    read-file-requires
+    slice-aggregate-read-file-3
+    slice-aggregate-read-file-4
+    read-file-requires-2
+    array-share-prefix-set
+    slice-aggregate-draw-text
+    array-share-prefix-board
+    slice-aggregate-draw-text-2
+    draw-text-requires
+    sub-write-all
+    part-write-all-start
+    part-write-all-end
+    write-all-requires
+    returns)
