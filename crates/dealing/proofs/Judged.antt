@@ -21,7 +21,7 @@ use Rattle.sharing.proofs.Degree.{product-passes}
 use Rattle.sharing.proofs.Theorems.{uncarried-one-value}
 use Rattle.posted.specs.Records.{isLineRecord, recordOf, isKey}
 use Rattle.posted.specs.Message.{checkPolynomial}
-use Rattle.dealing.specs.Dealing.{judgeDealingChecks, judgeDealingOutcome, vIn, YIn, rIn, cIn, vsIn, isLineOf, recomputed}
+use Rattle.dealing.specs.Dealing.{judgeDealingChecks, judgeDealingOutcome, vIn, YIn, rIn, cIn, vsIn, isLineFor, isLineOf, recomputed}
 use Rattle.dealing.specs.Claims.{Line, PostedDealing, AcceptedDealing, DealingExactly, EquationRefused, DealingRefused, AcceptedPasses, AcceptedUncarried}
 use Rattle.posted.proofs.Members.{each-members, members-exactly, members-false, member-exactly}
 use Rattle.posted.proofs.Challenges.{check-polynomial}
@@ -38,7 +38,7 @@ module _ (R : Round) (d : ℕ) (ys b : List ℕ) where
   equalAt i = eqb (cIn b i) (recomputed R d ys b)
 
   line : (i : ℕ) → isLineOf d b i ≡ true → elementsAt i ≡ true → exponentsAt i ≡ true → Line R d b i
-  unfolding isLineOf
+  unfolding isLineFor
   line i e f g =
       let k = and-true (isLineRecord (recordOf b i)) _ e in
       let w = and-true (eqb (recordOf b i .w1) d) _ (k .1) in
@@ -55,7 +55,7 @@ module _ (R : Round) (d : ℕ) (ys b : List ℕ) where
       }
 
   line-form : (i : ℕ) → Line R d b i → isLineOf d b i ≡ true
-  unfolding isLineOf
+  unfolding isLineFor
   line-form i L =
       true-and (isLineRecord (recordOf b i)) _ (L .kind)
       (true-and (eqb (recordOf b i .w1) d) _ (eq-eqb (recordOf b i .w1) d (L .dealer)) (eq-eqb (recordOf b i .w2) i (L .member)))

@@ -73,9 +73,13 @@ cIn b i = recordOf b i .w6
 unfoldable pub vsIn : ℕ → List ℕ → List ℕ
 vsIn n b = map (vIn b) (members n)
 
+-- a record is a line of the dealer d for member i
+unfoldable pub isLineFor : ℕ → ℕ → Record → Bool
+isLineFor d i r = isLineRecord r && (eqb (r .w1) d && eqb (r .w2) i)
+
 -- the record of member i is a line of the dealer d for him
-unfoldable pub isLineOf : ℕ → List ℕ → ℕ → Bool
-isLineOf d b i = isLineRecord (recordOf b i) && (eqb (recordOf b i .w1) d && eqb (recordOf b i .w2) i)
+abbrev pub isLineOf : ℕ → List ℕ → ℕ → Bool
+isLineOf d b i = isLineFor d i (recordOf b i)
 
 -- the challenge that the posted figures give
 unfoldable pub recomputed : Round → ℕ → List ℕ → List ℕ → ℕ
