@@ -62,15 +62,11 @@ module _ (n : ℕ) (b : List ℕ) (k : ℕ) where
 pub word-part : (n a : ℕ) (b : List ℕ) (k : ℕ) → k + 4 ≤ n → wordAt (take n (drop a b)) k ≡ wordAt b (a + k)
 word-part n a b k h = word-take n (drop a b) k h ∙ word-drop a b k
 
--- ---- the size of a word
+-- ---- the size of a byte
 byte-low : (b : List ℕ) (k : ℕ) → Below 256 b → getD b k 0 < 256
 byte-low [] k h = omega arith
 byte-low (x ∷ b) zero h = h .0
 byte-low (x ∷ b) (suc k) h = byte-low b k (h .1)
-
-pub word-low : (b : List ℕ) (k : ℕ) → Below 256 b → wordAt b k < 2 ^ 32
-unfolding wordAt
-word-low b k h = omega (arith, byte-low b k h, byte-low b (k + 1) h, byte-low b (k + 2) h, byte-low b (k + 3) h)
 
 -- ---- a word that is written
 pub word-back : (w : ℕ) (rest : List ℕ) → w < 2 ^ 32 → wordAt (wordBytes w ++ rest) 0 ≡ w

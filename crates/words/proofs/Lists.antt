@@ -113,13 +113,6 @@ up-at i zero k h = absurd (not-suc-le-zero h)
 up-at i (suc n) zero h = omega arith
 up-at i (suc n) (suc k) h = up-at (suc i) n k (le-of-suc-le-suc h) ∙ omega arith
 
--- a loop that runs up: the number at k, and what follows it
-pub up-next : (i n k : ℕ) → k < n → upFrom (i + k) (n - k) ≡ (i + k) ∷ upFrom (i + (k + 1)) (n - (k + 1))
-up-next i n k h =
-    let e : n - k ≡ suc (n - (k + 1)) = omega arith in
-    let s : suc (i + k) ≡ i + (k + 1) = omega arith in
-    ap (upFrom (i + k)) e ∙ ap (λ (m : ℕ). (i + k) ∷ upFrom m (n - (k + 1))) s
-
 pub up-drop : (i n k : ℕ) → k ≤ n → drop k (upFrom i n) ≡ upFrom (i + k) (n - k)
 up-drop i n zero h = λ j. upFrom (start j) (rest j)
   where

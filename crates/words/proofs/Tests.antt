@@ -77,14 +77,6 @@ module _ {A : Type 0} (f : A → Bool) where
 
 -- ---- a number that is not in a list
 module _ (x : ℕ) where
-  pub absent-true : (l : List ℕ) → absent x l ≡ true → All (λ y. x ≡ y → ⊥) l
-  absent-true [] e = tt
-  absent-true (y ∷ l) e = let s = apart (eqb x y) refl e in (eqb-false x y (s .0), absent-true l (s .1))
-    where
-      apart : (b : Bool) → eqb x y ≡ b → pick b false (absent x l) ≡ true → (eqb x y ≡ false) × (absent x l ≡ true)
-      apart true h e = absurd (false-true e)
-      apart false h e = (h, e)
-
   pub true-absent : (l : List ℕ) → All (λ y. x ≡ y → ⊥) l → absent x l ≡ true
   true-absent [] h = refl
   true-absent (y ∷ l) h = pick-false (eqb x y) _ _ (ne-eqb x y (h .0)) ∙ true-absent l (h .1)
@@ -100,10 +92,6 @@ module _ (x : ℕ) where
   absent-end l i e = rw (e, drop-length)
 
 -- ---- no number twice
-pub distinct-true : (l : List ℕ) → noneTwice l ≡ true → Distinct l
-distinct-true [] e = tt
-distinct-true (x ∷ l) e = let s = and-true (absent x l) (noneTwice l) e in (absent-true x l (s .0), distinct-true l (s .1))
-
 pub true-distinct : (l : List ℕ) → Distinct l → noneTwice l ≡ true
 true-distinct [] d = refl
 true-distinct (x ∷ l) d = true-and (absent x l) (noneTwice l) (true-absent x l (d .0)) (true-distinct l (d .1))
