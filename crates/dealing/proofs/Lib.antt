@@ -1,7 +1,5 @@
 -- Proofs of what specs/Claims.antt states, and the laws that they and the functions' proofs share.
 pub mod Entries
-pub mod Lines
 pub mod Sizes
 pub mod Figures
 pub mod Judged
-pub mod Written

@@ -1,4 +1,4 @@
--- What is claimed of dealings: demand 2 for what a dealer posts, and what it gives demand 3.
+-- What is claimed of judged dealings: demand 2 for what a dealer posts, and what it gives demand 3.
 use mathlib.Core.Path.{_≡_}
 use mathlib.Core.Bool.{true}
 use mathlib.Core.List.{List}
@@ -6,7 +6,7 @@ use mathlib.Core.Logic.{_↔_}
 use Prim.Native.Nat.{ℕ, _*_, _<_, _≤_}
 use lib.ListN.{length, getD}
 use Rattle.words.specs.Lists.{All}
-use Rattle.words.specs.Checks.{value, refused, Met, lentAfter}
+use Rattle.words.specs.Checks.{value, refused, Met}
 use Rattle.group.specs.Element.{isElement}
 use Rattle.sharing.specs.Round.{groupIn, roundChecks}
 use Rattle.sharing.specs.Answer.{degreeProduct}
@@ -14,7 +14,7 @@ use Rattle.sharing.specs.Carried.{Carries, Commitments, Passes, place, AgreeOff
 use Rattle.sharing.specs.declared.Round.{Round}
 use Rattle.posted.specs.Records.{isLineRecord, recordOf, isKey}
 use Rattle.posted.specs.Message.{checkPolynomial}
-use Rattle.dealing.specs.Dealing.{writeDealingChecks, writeDealingOutcome, writtenDealing, judgeDealingOutcome, vIn, YIn, rIn, cIn, vsIn, recomputed}
+use Rattle.dealing.specs.Dealing.{judgeDealingOutcome, vIn, YIn, rIn, cIn, vsIn, recomputed}
 
 -- ---- a posted dealing
 -- the line of member i: its form and its figures
@@ -60,31 +60,6 @@ pub record EquationRefused (R : Round) (d : ℕ) (ys b : List ℕ) : Type 0 wher
 
 abbrev pub DealingRefused : Type 0
 DealingRefused = (R : Round) (d : ℕ) (ys b : List ℕ) → PostedDealing R d ys b → EquationRefused R d ys b
-
--- ---- a written dealing
--- what is written from proper figures is accepted with the same keys
-abbrev pub DealingComplete : Type 0
-DealingComplete =
-    (R : Round) (d : ℕ) (ys cs ws : List ℕ) → writeDealingOutcome R d ys cs ws (32 * R .n) ≡ value tt
-    → judgeDealingOutcome R d ys (writtenDealing R d ys cs ws) ≡ value tt
-
--- and its polynomial carries it
-abbrev pub WrittenCarried : Type 0
-WrittenCarried =
-    (R : Round) (d : ℕ) (ys cs ws : List ℕ) → writeDealingOutcome R d ys cs ws (32 * R .n) ≡ value tt
-    → Carries R cs (vsIn (R .n) (writtenDealing R d ys cs ws))
-
--- the lent bytes are accepted where nothing is refused
-abbrev pub LentDealing : Type 0
-LentDealing =
-    (R : Round) (d : ℕ) (ys cs ws out : List ℕ) → writeDealingOutcome R d ys cs ws (length out) ≡ value tt
-    → judgeDealingOutcome R d ys (lentAfter (writeDealingChecks R d ys cs ws (length out)) (writtenDealing R d ys cs ws) out) ≡ value tt
-
--- and stay as they were where a number is refused
-abbrev pub LentDealingKept : Type 0
-LentDealingKept =
-    (R : Round) (d : ℕ) (ys cs ws out : List ℕ) (k : ℕ) → writeDealingOutcome R d ys cs ws (length out) ≡ refused k
-    → lentAfter (writeDealingChecks R d ys cs ws (length out)) (writtenDealing R d ys cs ws) out ≡ out
 
 -- ---- from posted figures to demand 3
 -- an accepted dealing has n elements as commitments, for which the judge's own check polynomial passes

@@ -1,6 +1,4 @@
-// Dealings: the writer and the judge.
+// Dealings as they are judged.
 mod judge;
-mod writer;
 
 pub use judge::judge_dealing;
-pub use writer::write_dealing;

@@ -1,6 +1,7 @@
--- Proofs of what specs/Claims.antt and specs/Demand3.antt state.
+-- Proofs of what specs/Claims.antt, specs/Honest.antt and specs/Demand3.antt state.
 pub mod Sources
 pub mod VerdictCases
 pub mod Endings
 pub mod TwoBoards
+pub mod Recovered
 pub mod Demand3

@@ -1,3 +1,4 @@
--- What is claimed of judged boards, and demand 3 whole.
+-- What is claimed of judged boards, that honest delegates meet the hypotheses, and demand 3 whole.
 pub mod Claims
+pub mod Honest
 pub mod Demand3

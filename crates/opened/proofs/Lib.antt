@@ -2,4 +2,3 @@
 pub mod Opened
 pub mod Keys
 pub mod Shares
-pub mod Recovered

@@ -29,7 +29,7 @@ pub fn run(case: Record, space: &mut [u8]) -> bool {
     let j = b as usize;
     let k = c as usize;
     let rd = payload::round(case);
-    let answer = dealing::write_dealing(
+    let answer = dealt::write_dealing(
         rd,
         case.w4,
         &ys[0..i],

@@ -1,8 +1,8 @@
 -- `write_refusal` meets its contract: each return by the tests that led to it.
 use borrow.Author.Needs.{needs}
 use borrow.Author.Tests.{not-true, not-false}
-use Rattle.dealing.proofs.writer.write_refusal.Statement.{statement}
-use Rattle.dealing.proofs.writer.write_refusal.Tie as tie
+use Rattle.dealt.proofs.writer.write_refusal.Statement.{statement}
+use Rattle.dealt.proofs.writer.write_refusal.Tie as tie
 
 is-member-requires : tie.Need-is-member-requires
 is-member-requires c κs = search needs

@@ -2,8 +2,8 @@
 use mathlib.Core.Path.{ap, _∙_}
 use borrow.Author.Needs.{needs}
 use Rattle.group.specs.Power.{pow}
-use Rattle.dealing.proofs.writer.power_at.Statement.{statement}
-use Rattle.dealing.proofs.writer.power_at.Tie as tie
+use Rattle.dealt.proofs.writer.power_at.Statement.{statement}
+use Rattle.dealt.proofs.writer.power_at.Tie as tie
 
 value-at-requires : tie.Need-value-at-requires
 value-at-requires c κs = search needs

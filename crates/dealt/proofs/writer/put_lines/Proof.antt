@@ -8,12 +8,12 @@ use lib.ListN.{length, take, drop}
 use Rattle.words.proofs.Lists.{up-length}
 use Rattle.words.specs.Bytes.{recordBytes}
 use Rattle.sharing.specs.Round.{members}
 use Rattle.dealing.specs.Dealing.{dealtLine}
 use Rattle.posted.specs.Records.{recordsBytes}
 use Rattle.dealing.proofs.Entries.{index-within, number-at}
-use Rattle.dealing.proofs.Lines.{lines-next, lines-end}
-use Rattle.dealing.proofs.writer.put_lines.Statement.{statement}
-use Rattle.dealing.proofs.writer.put_lines.Tie as tie
+use Rattle.dealt.proofs.Lines.{lines-next, lines-end}
+use Rattle.dealt.proofs.writer.put_lines.Statement.{statement}
+use Rattle.dealt.proofs.writer.put_lines.Tie as tie
 
 abbrev Inv-loop : tie.InvT-loop
 Inv-loop gr d ys cs ws c out₀ i₀ out i =

@@ -3,8 +3,8 @@ use mathlib.Core.Path.{refl}
 use borrow.Author.Needs.{needs}
 use borrow.Author.Tests.{eq-eqb, ne-eqb}
 use Rattle.posted.proofs.Conjunctions.{and-held}
-use Rattle.dealing.proofs.writer.sizes_fit.Statement.{statement}
-use Rattle.dealing.proofs.writer.sizes_fit.Tie as tie
+use Rattle.dealt.proofs.writer.sizes_fit.Statement.{statement}
+use Rattle.dealt.proofs.writer.sizes_fit.Tie as tie
 
 cast-n : tie.Need-cast-n
 cast-n c = search needs

@@ -11,13 +11,13 @@ use Rattle.group.specs.Element.{Proper}
 use Rattle.group.specs.Power.{pow}
 use Rattle.group.specs.declared.Group.{Group}
 use Rattle.sharing.proofs.Rounds.{ready}
 use Rattle.dealing.specs.Dealing.{dealtV, dealtY, dealtC}
 use Rattle.posted.specs.Message.{challengeOf, dealingMessage}
 use Rattle.posted.specs.Records.{entry}
 use Rattle.dealing.proofs.Entries.{figures-length, HoldsFirst, holds-none, holds-next, holds-all, dealing-same}
 use Rattle.dealing.proofs.Sizes.{group-proper}
-use Rattle.dealing.proofs.writer.dealt_challenge.Statement.{statement}
-use Rattle.dealing.proofs.writer.dealt_challenge.Tie as tie
+use Rattle.dealt.proofs.writer.dealt_challenge.Statement.{statement}
+use Rattle.dealt.proofs.writer.dealt_challenge.Tie as tie
 
 -- the announcements of the nonce of member i
 abbrev firstOf : Group → List ℕ → ℕ → ℕ

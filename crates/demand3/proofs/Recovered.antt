@@ -18,12 +18,12 @@ use Rattle.sharing.specs.declared.Round.{Round}
 use Rattle.sharing.proofs.Theorems.{quorum-recovers}
 use Rattle.posted.specs.Records.{entry, isSecretKey}
 use Rattle.dealing.specs.Dealing.{dealtY, writtenDealing, YIn, vsIn}
 use Rattle.opened.specs.Share.{keyOf, shareOf, writtenShare, writeShareChecks, writeShareOutcome, judgeShareOutcome}
-use Rattle.opened.specs.Claims.{DealtShareAccepted, WrittenRecovered}
+use Rattle.demand3.specs.Honest.{DealtShareAccepted, WrittenRecovered}
 use Rattle.posted.proofs.Members.{member-exactly}
-use Rattle.dealing.proofs.Written.{WritableDealing, writable, Y-is, line-proper, carries}
+use Rattle.dealt.proofs.Written.{WritableDealing, writable, Y-is, line-proper, carries}
 use Rattle.opened.proofs.Keys.{share-true}
 use Rattle.opened.proofs.Shares.{share-complete}
 
 module _ (R : Round) (d : ℕ) (ys cs ws : List ℕ) (W : WritableDealing R d ys cs) where
   abbrev Y : ℕ → ℕ

@@ -6,11 +6,11 @@ use borrow.Author.Needs.{needs}
 use lib.ListN.{getD}
 use Rattle.words.proofs.Lists.{All-at}
 use Rattle.group.specs.Power.{pow}
 use Rattle.dealing.specs.Dealing.{dealtV, dealtY, dealtR, dealtLine}
 use Rattle.equality.specs.Equality.{response}
 use Rattle.posted.specs.Records.{entry}
-use Rattle.dealing.proofs.writer.line.Statement.{statement}
-use Rattle.dealing.proofs.writer.line.Tie as tie
+use Rattle.dealt.proofs.writer.line.Statement.{statement}
+use Rattle.dealt.proofs.writer.line.Tie as tie
 
 cast-member : tie.Need-cast-member
 cast-member c = search needs

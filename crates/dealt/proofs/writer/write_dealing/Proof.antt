@@ -7,12 +7,12 @@ use borrow.Author.Needs.{needs}
 use lib.ListN.{length, drop}
 use Rattle.words.specs.Checks.{Check, Met}
 use Rattle.sharing.specs.Round.{members}
 use Rattle.dealing.specs.Dealing.{dealtLine, writtenDealing, writeDealingChecks, writeDealingOutcome}
 use Rattle.posted.specs.Records.{recordsBytes}
 use Rattle.dealing.proofs.Sizes.{below-order, group-proper, Writable, writable}
 use Rattle.posted.proofs.Stages.{round-first, group-is, later-first, later-met, bytes-kept, bytes-written}
-use Rattle.dealing.proofs.writer.write_dealing.Statement.{statement}
-use Rattle.dealing.proofs.writer.write_dealing.Tie as tie
+use Rattle.dealt.proofs.writer.write_dealing.Statement.{statement}
+use Rattle.dealt.proofs.writer.write_dealing.Tie as tie
 
 abbrev checks : tie.Start → List Check
 checks s = writeDealingChecks (s .args .rd) (s .args .d) (s .args .ys .now) (s .args .cs .now) (s .args .ws .now) (length (s .args .out .now))

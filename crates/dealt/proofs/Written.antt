@@ -29,13 +29,14 @@ use Rattle.sharing.proofs.Theorems.{carried-passes}
 use Rattle.posted.specs.Records.{isLineRecord, entry, recordOf, isKey}
 use Rattle.posted.specs.Message.{challengeOf, checkPolynomial}
 use Rattle.equality.specs.Equality.{announced}
 use Rattle.dealing.specs.Dealing.{dealtV, dealtY, dealtC, dealtR, dealtLine, writtenDealing, writeDealingChecks, writeDealingOutcome, judgeDealingOutcome, vIn, YIn, rIn, cIn, vsIn, recomputed}
-use Rattle.dealing.specs.Claims.{Line, DegreeEquation, AcceptedDealing, DealingComplete, WrittenCarried, LentDealing, LentDealingKept}
+use Rattle.dealing.specs.Claims.{Line, DegreeEquation, AcceptedDealing}
+use Rattle.dealt.specs.Claims.{DealingComplete, WrittenCarried, LentDealing, LentDealingKept}
 use Rattle.posted.proofs.Members.{each-members, member-exactly, key-element, entry-all}
 use Rattle.posted.proofs.Posted.{member-word, element-word, exponent-word, records-length, record-back}
 use Rattle.posted.proofs.Challenges.{challenge-low, check-polynomial, message-same}
 use Rattle.equality.proofs.Equal.{response-low, announced-back}
 use Rattle.dealing.proofs.Judged.{accepts-dealing}
 
 -- what the writer asks of round, dealer, keys and polynomial; of the nonces nothing is used
 pub record WritableDealing (R : Round) (d : ℕ) (ys cs : List ℕ) : Type 0 where

@@ -1,0 +1,3 @@
+-- Proofs of what specs/Claims.antt states, and the laws that they and the functions' proofs share.
+pub mod Lines
+pub mod Written

@@ -1,0 +1,2 @@
+-- What is claimed of written dealings.
+pub mod Claims

@@ -1,0 +1,4 @@
+// Dealings as they are written.
+mod writer;
+
+pub use writer::write_dealing;
