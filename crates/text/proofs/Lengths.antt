@@ -25,6 +25,7 @@ use Rattle.verdicts.specs.declared.Verdict.{Verdict}
 use Rattle.verdicts.specs.declared.Verdict.the-variants.{None, Refused, Accepted}
 use Rattle.text.specs.Text.{figure, newLine, dealerWord, openedWord, recoveredWord, refusedWord, roundWord, acceptedWord, drawWord}
 use Rattle.text.specs.Text.{secretText, verdictText, dealerLine, dealerLines, refusedLine, drawLine, roundLine, acceptedLine, report, boardText, setChecks, roundIn, drawText}
+use Rattle.text.specs.Buffer.{Room}
 use Rattle.text.specs.Claims.{TextFits}
 use Rattle.text.proofs.Figures.{figure-most, short-figure}
 
@@ -68,7 +69,7 @@ dealers-most d (v ∷ vs) h =
       dealers-most (suc d) vs (omega arith),
     )
 
-pub refused-most : (k : ℕ) → length (refusedLine k) ≤ 19
+refused-most : (k : ℕ) → length (refusedLine k) ≤ 19
 unfolding refusedLine
 refused-most k = line-most refusedWord k
 
@@ -114,7 +115,7 @@ module _ (J : Judges) where
         draw-most (drawOn J R b),
       )
 
-  pub board-most : (R : Round) (b : List ℕ) → length (boardText J R b) ≤ 1024
+  board-most : (R : Round) (b : List ℕ) → length (boardText J R b) ≤ 1024
   unfolding boardText
   board-most R b = go (eqb (refusal (boardChecks R b)) 0) refl
     where
@@ -130,6 +131,14 @@ text-fits J s b = go (eqb (refusal (setChecks s)) 0)
     go : (x : Bool) → length (pick x (boardText J (roundIn s) b) (refusedLine (refusal (setChecks s)))) ≤ 1024
     go true = board-most J (roundIn s) b
     go false = omega (arith, refused-most (refusal (setChecks s)))
+
+-- ---- room in a buffer of 1,024 bytes
+module _ (l : List ℕ) (e : length l ≡ 1024) where
+  pub refused-room : (k : ℕ) → Room 0 (refusedLine k) l
+  refused-room k = record { fits = omega (arith, refused-most k) }
+
+  pub board-room : (J : Judges) (R : Round) (b : List ℕ) → Room 0 (boardText J R b) l
+  board-room J R b = record { fits = omega (arith, board-most J R b) }
 
 -- what `draw_text` answers is within the buffer
 pub text-within : (J : Judges) (s b l m : List ℕ) (r : ℕ) → (r ≡ length (drawText J s b)) × (m ≡ drawText J s b ++ drop r l) → r ≤ length m

@@ -6,7 +6,7 @@ use Rattle.sharing.specs.declared.Round.{Round}
 use Rattle.verdicts.specs.Verdict.{judges}
 use Rattle.text.specs.Text.{refusedLine, boardText}
 use Rattle.text.proofs.Writing.{written-as, at-start}
-use Rattle.text.proofs.Lengths.{refused-most}
+use Rattle.text.proofs.Lengths.{refused-room}
 use Rattle.text.proofs.Reports.{set-refused, set-passed, set-size}
 use Rattle.text.proofs.draw_text.Statement.{statement}
 use Rattle.text.proofs.draw_text.Tie as tie
@@ -19,7 +19,7 @@ slice-aggregate-put-line c = refl
 
 put-line-requires : tie.Need-put-line-requires
 unfolding refusedLine
-put-line-requires c κs = record { fits = omega (arith, refused-most (c .before .before .before .set-refusal .result)) }
+put-line-requires c κs = let k = c .before .before .before in refused-room _ (omega arith) (k .set-refusal .result)
 
 returns : tie.Need-returns
 unfolding refusedLine

@@ -1,11 +1,10 @@
 -- `put_board` meets its contract: the refusal's line where a check before the verdicts refuses, and else the report.
 use mathlib.Core.Path.{refl, sym, ap, _∙_}
-use native.Mathlib.Omega.{arith}
 use Rattle.sharing.proofs.Rounds.{ready}
 use Rattle.verdicts.specs.Verdict.{judges}
 use Rattle.text.specs.Text.{refusedLine}
 use Rattle.text.proofs.Writing.{room-as, written-as}
-use Rattle.text.proofs.Lengths.{reached-round, refused-most, board-most}
+use Rattle.text.proofs.Lengths.{reached-round, refused-room, board-room}
 use Rattle.text.proofs.Reports.{report-same, board-refused, board-reported}
 use Rattle.text.proofs.put_board.Statement.{statement}
 use Rattle.text.proofs.put_board.Tie as tie
@@ -20,7 +19,7 @@ put-line-requires : tie.Need-put-line-requires
 unfolding refusedLine
 put-line-requires c κs =
     let k = c .before .before .before in
-    record { fits = omega (arith, refused-most (k .board-refusal .result), k .before .before .before .pre) }
+    refused-room _ (k .before .before .before .pre) (k .board-refusal .result)
 
 same-length : tie.Need-same-length
 same-length c = c .before .before .put-line .kept .0
@@ -48,7 +47,7 @@ put-report-requires c κs =
     let most = ready (a .rd) (reached-round (a .rd) (a .board .now) z) .at-most in
     let e = board-reported judges (a .rd) (a .board .now) z
     ∙ sym (report-same judges (a .rd) (a .board .now) (c .judge-board .result) most z (c .judge-board .ensures)) in
-    (most, room-as e (record { fits = omega (arith, board-most judges (a .rd) (a .board .now), s .pre) }))
+    (most, room-as e (board-room _ (s .pre) judges (a .rd) (a .board .now)))
 
 same-length-2 : tie.Need-same-length-2
 same-length-2 c = c .before .before .put-report .kept .0
