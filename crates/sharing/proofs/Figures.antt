@@ -12,7 +12,7 @@ use Rattle.sharing.specs.Round.{isRound, roundChecks}
 use Rattle.sharing.specs.Weights.{gapsAt, weightAt, weightsOf, powers}
 use Rattle.sharing.specs.Answer.{degreeProduct, degreeOutcome}
 use Rattle.sharing.specs.Carried.{powersAt, Carries, Commitments, place}
-use Rattle.sharing.specs.Figures.{small, CarriedFigures, FirstPlace, firstOnly, FirstOnlyFigures, thirdChanged, ThirdChangedFigures}
+use Rattle.sharing.specs.Figures.{small, CarriedFigures, FirstPlace, firstOnly, FirstOnlyFigures}
 use Rattle.sharing.proofs.Theorems.{carried-passes}
 
 met : Met (roundChecks small)
@@ -37,7 +37,3 @@ first-place vs C f e = record { commitments = C; uncarried = uncarried; first = 
 pub first-only-figures : FirstOnlyFigures
 unfolding place degreeOutcome degreeProduct powers weightsOf weightAt gapsAt isRound isElement isExponent isGroup groupOf pow inv add mul sub
 first-only-figures = (first-place firstOnly (record { size = refl; elements = refl }) refl refl, refl)
-
-pub third-changed-figures : ThirdChangedFigures
-unfolding place degreeOutcome degreeProduct powers weightsOf weightAt gapsAt isRound isElement isExponent isGroup groupOf pow inv add mul sub
-third-changed-figures = (first-place thirdChanged (record { size = refl; elements = refl }) refl refl, refl, refl, refl)

@@ -1,4 +1,4 @@
--- Commitments of group 1 with n = 4 and t = 2: carried ones, and two lists that no polynomial of degree below 2 carries.
+-- Commitments of group 1 with n = 4 and t = 2: carried ones, and some that no polynomial of degree below 2 carries.
 -- They show that the claims on carried and on uncarried commitments speak of something.
 use mathlib.Core.Path.{_≡_}
 use mathlib.Core.List.{List, [], _∷_}
@@ -6,8 +6,8 @@ use Prim.Native.Nat.{ℕ}
 use Rattle.words.specs.Lists.{map}
 use Rattle.words.specs.Checks.{refused, Met}
 use Rattle.group.specs.Power.{pow}
-use Rattle.sharing.specs.Round.{groupIn, roundChecks}
-use Rattle.sharing.specs.Answer.{degreeProduct, degreeOutcome}
+use Rattle.sharing.specs.Round.{roundChecks}
+use Rattle.sharing.specs.Answer.{degreeOutcome}
 use Rattle.sharing.specs.Carried.{Carries, Commitments, Passes, place}
 use Rattle.sharing.specs.declared.Round.{Round}
 
@@ -31,14 +31,3 @@ firstOnly = map (pow 23 4) (0 ∷ 7 ∷ 1 ∷ 0 ∷ [])
 
 abbrev pub FirstOnlyFigures : Type 0
 FirstOnlyFigures = FirstPlace firstOnly × Passes small firstOnly (0 ∷ 1 ∷ [])
-
--- with the third of 9, 16, 8, 4 changed to 9, check polynomial 1 gives 12, and 8 + the member number gives 1 and passes
-abbrev pub thirdChanged : List ℕ
-thirdChanged = 9 ∷ 16 ∷ 9 ∷ 4 ∷ []
-
-abbrev pub ThirdChangedFigures : Type 0
-ThirdChangedFigures =
-    FirstPlace thirdChanged
-    × (degreeProduct (groupIn small) 4 thirdChanged (1 ∷ 0 ∷ []) ≡ 12)
-    × (degreeProduct (groupIn small) 4 thirdChanged (8 ∷ 1 ∷ []) ≡ 1)
-    × Passes small thirdChanged (8 ∷ 1 ∷ [])
