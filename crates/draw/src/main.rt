@@ -3,7 +3,7 @@ ghost use Rattle.io.specs.Counts.{Counts};
 use libc::STDOUT_FILENO;
 
 // Reads a file to the start of `space` until it ends or the space is full, and answers how many bytes that is. A missing file counts as
-// empty.
+// empty. The file stays open until the program ends, which is soon.
 fn read_file(path: &[u8], space: &mut [u8]) -> usize
     ensures { λ r. ⌜ Counts r (now (space .exit)) ⌝ }
 {
@@ -11,9 +11,7 @@ fn read_file(path: &[u8], space: &mut [u8]) -> usize
     if file < 0 {
         return 0;
     }
-    let count = io::read_full(file, space);
-    libc::close(file);
-    count
+    io::read_full(file, space)
 }
 
 // Each space has one byte more than the longest file that is not refused for its length.
