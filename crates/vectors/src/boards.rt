@@ -7,38 +7,26 @@ use crate::payload;
 use crate::print;
 use words::Record;
 
-// Copies `count` bytes of `from` from i on to `to` from k on. False where there is no such part.
-fn copy(from: &[u8], i: usize, count: usize, to: &mut [u8], k: usize) -> bool {
-    if from.len() < count {
-        return false;
+// Copies the bytes of `from` from `start` up to `end` to `to` from `place` on, as far as both reach. Returns the place behind them.
+fn copy(from: &[u8], start: usize, end: usize, to: &mut [u8], place: usize) -> usize {
+    let mut i = start;
+    let mut k = place;
+    while i < end {
+        if i >= from.len() {
+            return k;
+        }
+        if k >= to.len() {
+            return k;
+        }
+        to[k] = from[i];
+        i += 1;
+        k += 1;
     }
-    if i > from.len() - count {
-        return false;
-    }
-    if to.len() < count {
-        return false;
-    }
-    if k > to.len() - count {
-        return false;
-    }
-    let mut j = 0;
-    while j < count {
-        to[k + j] = from[i + j];
-        j += 1;
-    }
-    true
+    k
 }
 
-// The longest board, with one record too many, and the length of one that cannot be built.
-const LONGEST: usize = 65568;
-
-const NONE: usize = 65569;
-
 // Builds the board that the changes make of the first `size` bytes of the base. Returns its length.
-fn build(base: &[u8], size: u32, changes: &[u8], board: &mut [u8]) -> usize {
-    if changes.len() > LONGEST {
-        return NONE;
-    }
+fn build(base: &[u8], size: usize, changes: &[u8], board: &mut [u8]) -> usize {
     let mut at = 0;
     let mut i = 0;
     let mut k = 0;
@@ -46,60 +34,38 @@ fn build(base: &[u8], size: u32, changes: &[u8], board: &mut [u8]) -> usize {
         let place = payload::word_from(changes, at) as usize;
         let removed = payload::word_from(changes, at + 4) as usize;
         let put = payload::word_from(changes, at + 8) as usize;
-        if place < i {
-            return NONE;
-        }
-        if k > LONGEST {
-            return NONE;
-        }
-        let kept = place - i;
-        if !copy(base, i, kept, board, k) {
-            return NONE;
-        }
-        if !copy(changes, at + 12, put, board, k + kept) {
-            return NONE;
-        }
+        let from = at + 12;
+        k = copy(base, i, place, board, k);
+        k = copy(changes, from, from + put, board, k);
         i = place + removed;
-        k = k + kept + put;
-        at = at + 12 + put;
+        at = from + put;
     }
-    let end = size as usize;
-    if end < i {
-        return NONE;
-    }
-    if k > LONGEST {
-        return NONE;
-    }
-    if !copy(base, i, end - i, board, k) {
-        return NONE;
-    }
-    k + (end - i)
+    copy(base, i, size, board, k)
 }
 
-// Makes the first `count` bytes of `space` the base. False where they do not fit.
-pub fn load(space: &[u8], count: usize, base: &mut [u8; 65568]) -> bool {
+// Makes the payload the base.
+pub fn load(case: Record, space: &[u8], base: &mut [u8; 65568]) {
+    let count = case.w7 as usize;
     print::length(b"base ", count);
-    copy(space, 0, count, base, 0)
+    copy(space, 0, count, base, 0);
 }
 
 // Calls the operation of a case with its board. Argument 6 is the length of the set, which the payload has before the changes.
-pub fn run(case: Record, space: &[u8], count: usize, base: &[u8]) -> bool {
+pub fn run(case: Record, space: &[u8], base: &[u8]) -> bool {
+    if case.w7 < case.w6 {
+        return false;
+    }
     let from = case.w6 as usize;
-    if count < from {
-        return false;
-    }
-    if space.len() < count {
-        return false;
-    }
-    let mut board = [0u8; 65568];
-    let length = build(base, case.w5, &space[from..count], &mut board);
-    if length > LONGEST {
-        return false;
-    }
+    let changes = payload::part(space, from, (case.w7 - case.w6) as usize);
+    // The longest board has one record too many.
+    let mut space_of_board = [0u8; 65568];
+    let length = build(base, case.w5 as usize, changes, &mut space_of_board);
+    let board = payload::part(&space_of_board, 0, length);
     let operation = case.w0;
     match operation {
-        11 => lines::check(case, &board[0..length]),
-        12 => lines::part(case, &board[0..length]),
-        _ => draw_text::run(&space[0..from], &board[0..length]),
+        11 => lines::check(case, board),
+        12 => lines::part(case, board),
+        _ => draw_text::run(payload::part(space, 0, from), board),
     }
+    true
 }

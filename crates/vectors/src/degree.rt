@@ -4,18 +4,13 @@ use crate::payload;
 use crate::print;
 use words::Record;
 
-pub fn run(case: Record, space: &[u8]) -> bool {
+pub fn run(case: Record, space: &[u8]) {
     let vs = payload::list(space, 0);
-    let cs = payload::list(space, case.w4);
-    let a = case.w4 as usize;
-    let b = case.w5 as usize;
-    if a > 64 {
-        return false;
-    }
-    if b > 64 {
-        return false;
-    }
-    let rd = payload::round(case);
-    print::check(b"degree ", sharing::degree_check(rd, &vs[0..a], &cs[0..b]));
-    true
+    let cs = payload::list(space, case.w4 as usize);
+    let answer = sharing::degree_check(
+        payload::round(case),
+        payload::first(&vs, case.w4),
+        payload::first(&cs, case.w5),
+    );
+    print::check(b"degree ", answer);
 }

@@ -7,7 +7,7 @@ use group::Element;
 use group::Exponent;
 use words::Record;
 
-pub fn run(case: Record, space: &[u8]) -> bool {
+pub fn run(case: Record, space: &[u8]) {
     let ws = payload::list(space, 0);
     let proof = Equality {
         b1: Element(ws[0]),
@@ -20,5 +20,4 @@ pub fn run(case: Record, space: &[u8]) -> bool {
         r: Exponent(ws[7]),
     };
     print::check(b"equality ", equality::equality_check(case.w1, proof));
-    true
 }

@@ -4,21 +4,10 @@ use crate::payload;
 use crate::print;
 use words::Record;
 
-pub fn run(case: Record, space: &[u8]) -> bool {
+pub fn run(case: Record, space: &[u8]) {
     let ys = payload::list(space, 0);
-    let a = case.w5 as usize;
-    if a > 64 {
-        return false;
-    }
-    let from = 4 * a;
-    let end = from + case.w6 as usize;
-    if space.len() < end {
-        return false;
-    }
-    let rd = payload::round(case);
-    print::check(
-        b"judge_dealing ",
-        dealing::judge_dealing(rd, case.w4, &ys[0..a], &space[from..end]),
-    );
-    true
+    let keys = payload::first(&ys, case.w5);
+    let lines = payload::part(space, 4 * case.w5 as usize, case.w6 as usize);
+    let answer = dealing::judge_dealing(payload::round(case), case.w4, keys, lines);
+    print::check(b"judge_dealing ", answer);
 }

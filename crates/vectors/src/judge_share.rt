@@ -5,17 +5,10 @@ use crate::print;
 use group::Element;
 use words::Record;
 
-pub fn run(case: Record, space: &[u8]) -> bool {
-    let y = Element(payload::word(space, 0));
-    let e = Element(payload::word(space, 1));
-    let rd = payload::round(case);
-    let end = 8 + case.w6 as usize;
-    if space.len() < end {
-        return false;
-    }
-    print::element(
-        b"judge_share ",
-        opened::judge_share(rd, case.w4, case.w5, y, e, &space[8..end]),
-    );
-    true
+pub fn run(case: Record, space: &[u8]) {
+    let y = Element(payload::word_from(space, 0));
+    let e = Element(payload::word_from(space, 4));
+    let record = payload::part(space, 8, case.w6 as usize);
+    let answer = opened::judge_share(payload::round(case), case.w4, case.w5, y, e, record);
+    print::element(b"judge_share ", answer);
 }

@@ -29,24 +29,25 @@ fn read_payload(space: &mut [u8], count: usize) -> bool {
     io::read_full(STDIN_FILENO, &mut space[0..count]) == count
 }
 
-// Calls the operation of a case whose payload is the first `count` bytes of `space`. False where it cannot.
-fn run(case: Record, space: &mut [u8], count: usize, base: &mut [u8; 65568]) -> bool {
+// Calls the operation of a case with its payload. False where it cannot.
+fn run(case: Record, space: &mut [u8], base: &mut [u8; 65568]) -> bool {
     let operation = case.w0;
     match operation {
-        1 => digest::run(case, space, count),
+        1 => digest::run(case, space),
         2 => power::run(case),
         3 => degree::run(case, space),
         4 => opening::run(case, space),
         5 => recovery::run(case, space),
         6 => equality_check::run(case, space),
-        7 => write_dealing::run(case, space),
+        7 => return write_dealing::run(case, space),
         8 => judge_dealing::run(case, space),
-        9 => write_share::run(case, space),
+        9 => return write_share::run(case, space),
         10 => judge_share::run(case, space),
-        11..=13 => boards::run(case, space, count, base),
-        14 => boards::load(space, count, base),
-        _ => false,
+        11..=13 => return boards::run(case, space, base),
+        14 => boards::load(case, space, base),
+        _ => return false,
     }
+    true
 }
 
 // Replays one case. False at the end of the input, and after a case that cannot be read or called.
@@ -57,10 +58,9 @@ fn replay(base: &mut [u8; 65568]) -> bool {
         return false;
     }
     let case = words::read_record(&header);
-    let count = case.w7 as usize;
     // The longest payload is a board with one record too many.
     let mut space = [0u8; 65568];
-    if got == 32 && read_payload(&mut space, count) && run(case, &mut space, count, base) {
+    if got == 32 && read_payload(&mut space, case.w7 as usize) && run(case, &mut space, base) {
         return true;
     }
     print::text(b"no case\n");

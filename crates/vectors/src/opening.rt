@@ -4,16 +4,9 @@ use crate::print;
 use group::Exponent;
 use words::Record;
 
-pub fn run(case: Record, space: &[u8]) -> bool {
+pub fn run(case: Record, space: &[u8]) {
     let vs = payload::list(space, 0);
-    let a = case.w5 as usize;
-    if a > 64 {
-        return false;
-    }
-    let rd = payload::round(case);
-    print::check(
-        b"opening ",
-        sharing::opening(rd, &vs[0..a], Exponent(case.w4)),
-    );
-    true
+    let commitments = payload::first(&vs, case.w5);
+    let answer = sharing::opening(payload::round(case), commitments, Exponent(case.w4));
+    print::check(b"opening ", answer);
 }

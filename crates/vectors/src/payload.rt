@@ -22,23 +22,39 @@ pub fn word_from(space: &[u8], k: usize) -> u32 {
     words::word_at(space, k)
 }
 
-// The word number k of a payload, from 0. It is 0 where the space ends before.
-pub fn word(space: &[u8], k: usize) -> u32 {
-    let words = space.len() / 4;
-    if k < words {
-        words::word_at(space, 4 * k)
-    } else {
-        0
-    }
-}
-
-// The 64 words of a payload from the word number `from` on. A case's lists are no longer.
-pub fn list(space: &[u8], from: u32) -> [u32; 64] {
+// The words of a payload from the word number `from` on, from 0. A case's lists have at most 64.
+pub fn list(space: &[u8], from: usize) -> [u32; 64] {
     let mut ws = [0u32; 64];
+    let mut k = from;
     let mut i = 0;
     while i < 64 {
-        ws[i] = word(space, from as usize + i);
+        if k >= space.len() / 4 {
+            return ws;
+        }
+        ws[i] = words::word_at(space, 4 * k);
+        k += 1;
         i += 1;
     }
     ws
+}
+
+// The first `count` words of a list, and all where there are fewer.
+pub fn first(ws: &[u32], count: u32) -> &[u32] {
+    let end = count as usize;
+    if end > ws.len() {
+        return ws;
+    }
+    &ws[0..end]
+}
+
+// The bytes of a space from `from` on, `count` of them, and none where it ends before.
+pub fn part(space: &[u8], from: usize, count: usize) -> &[u8] {
+    if space.len() < count {
+        return &space[0..0];
+    }
+    if from > space.len() - count {
+        return &space[0..0];
+    }
+    let end = from + count;
+    &space[from..end]
 }

@@ -1,6 +1,7 @@
 // The lines of the output: an operation's name, and its value or `refused` and the number.
 use group::ElementAnswer;
 use libc::STDOUT_FILENO;
+use sha256::DigestAnswer;
 use sharing::CheckAnswer;
 use words::Record;
 
@@ -21,11 +22,6 @@ pub fn length(name: &[u8], n: usize) {
 
 fn number(name: &[u8], n: u32) {
     length(name, n as usize);
-}
-
-pub fn refused(name: &[u8], k: u32) {
-    text(name);
-    number(b"refused ", k);
 }
 
 // An answer without a value, and no end of the line.
@@ -54,20 +50,19 @@ fn bytes(b: &[u8]) {
     }
 }
 
-// The answer of a writer, and what its buffer, the first `size` bytes, then has in it.
-pub fn written(name: &[u8], answer: CheckAnswer, space: &[u8], size: usize) {
+// The answer of a writer, and what its buffer then has in it.
+pub fn written(name: &[u8], answer: CheckAnswer, buffer: &[u8]) {
     passed(name, answer);
     text(b" ");
-    if size <= space.len() {
-        bytes(&space[0..size]);
-    }
+    bytes(buffer);
     text(b"\n");
 }
 
 pub fn element(name: &[u8], answer: ElementAnswer) {
+    text(name);
     match answer {
-        ElementAnswer::Value(v) => number(name, v.0),
-        ElementAnswer::Refused(k) => refused(name, k),
+        ElementAnswer::Value(v) => number(b"", v.0),
+        ElementAnswer::Refused(k) => number(b"refused ", k),
     }
 }
 
@@ -75,8 +70,7 @@ fn word(w: u32) {
     io::print_hex(STDOUT_FILENO, w as u64, 8);
 }
 
-pub fn digest(name: &[u8], d: Record) {
-    text(name);
+fn words(d: Record) {
     word(d.w0);
     word(d.w1);
     word(d.w2);
@@ -86,4 +80,12 @@ pub fn digest(name: &[u8], d: Record) {
     word(d.w6);
     word(d.w7);
     text(b"\n");
+}
+
+pub fn digest(name: &[u8], answer: DigestAnswer) {
+    text(name);
+    match answer {
+        DigestAnswer::Value(d) => words(d),
+        DigestAnswer::Refused(k) => number(b"refused ", k),
+    }
 }

@@ -3,18 +3,13 @@ use crate::payload;
 use crate::print;
 use words::Record;
 
-pub fn run(case: Record, space: &[u8]) -> bool {
+pub fn run(case: Record, space: &[u8]) {
     let ms = payload::list(space, 0);
-    let ss = payload::list(space, case.w4);
-    let a = case.w4 as usize;
-    let b = case.w5 as usize;
-    if a > 64 {
-        return false;
-    }
-    if b > 64 {
-        return false;
-    }
-    let rd = payload::round(case);
-    print::element(b"recovery ", sharing::recovery(rd, &ms[0..a], &ss[0..b]));
-    true
+    let ss = payload::list(space, case.w4 as usize);
+    let answer = sharing::recovery(
+        payload::round(case),
+        payload::first(&ms, case.w4),
+        payload::first(&ss, case.w5),
+    );
+    print::element(b"recovery ", answer);
 }

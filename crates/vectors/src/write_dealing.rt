@@ -6,37 +6,24 @@ use crate::print;
 use words::Record;
 
 pub fn run(case: Record, space: &mut [u8]) -> bool {
-    let size = payload::word(space, 0) as usize;
-    let a = payload::word(space, 1);
-    let b = payload::word(space, 2);
-    let c = payload::word(space, 3);
+    let size = payload::word_from(space, 0) as usize;
     if space.len() < size {
         return false;
     }
-    if a > 64 {
-        return false;
-    }
-    if b > 64 {
-        return false;
-    }
-    if c > 64 {
-        return false;
-    }
+    let a = payload::word_from(space, 4);
+    let b = payload::word_from(space, 8);
+    let c = payload::word_from(space, 12);
     let ys = payload::list(space, 4);
-    let cs = payload::list(space, 4 + a);
-    let ws = payload::list(space, 4 + a + b);
-    let i = a as usize;
-    let j = b as usize;
-    let k = c as usize;
-    let rd = payload::round(case);
+    let cs = payload::list(space, 4 + a as usize);
+    let ws = payload::list(space, 4 + a as usize + b as usize);
     let answer = dealt::write_dealing(
-        rd,
+        payload::round(case),
         case.w4,
-        &ys[0..i],
-        &cs[0..j],
-        &ws[0..k],
+        payload::first(&ys, a),
+        payload::first(&cs, b),
+        payload::first(&ws, c),
         &mut space[0..size],
     );
-    print::written(b"write_dealing ", answer, space, size);
+    print::written(b"write_dealing ", answer, payload::part(space, 0, size));
     true
 }

@@ -7,16 +7,15 @@ use group::Exponent;
 use words::Record;
 
 pub fn run(case: Record, space: &mut [u8]) -> bool {
-    let ws = payload::list(space, 0);
-    let e = Element(ws[0]);
-    let x = Exponent(ws[1]);
-    let w = Exponent(ws[2]);
-    let rd = payload::round(case);
     let size = case.w6 as usize;
     if space.len() < size {
         return false;
     }
+    let e = Element(payload::word_from(space, 0));
+    let x = Exponent(payload::word_from(space, 4));
+    let w = Exponent(payload::word_from(space, 8));
+    let rd = payload::round(case);
     let answer = opened::write_share(rd, case.w4, case.w5, e, x, w, &mut space[0..size]);
-    print::written(b"write_share ", answer, space, size);
+    print::written(b"write_share ", answer, payload::part(space, 0, size));
     true
 }

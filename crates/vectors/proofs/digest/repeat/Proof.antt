@@ -12,11 +12,14 @@ Inv-loop space₀ period end i₀ space i = (period ≤ i) × (length space ≡ 
 abbrev μ-loop : tie.MeasureT-loop
 μ-loop space₀ period end i₀ space i = end - i
 
-returns : tie.Need-returns Inv-loop μ-loop
-returns c = tt
-
 loop-holds : tie.Need-loop-holds Inv-loop μ-loop
 loop-holds c = omega arith
+
+same-length : tie.Need-same-length Inv-loop μ-loop
+same-length c = omega arith
+
+returns : tie.Need-returns Inv-loop μ-loop
+returns c = tt
 
 sub-space : tie.Need-sub-space Inv-loop μ-loop
 sub-space c = omega arith
@@ -36,8 +39,8 @@ loop-less c = omega arith
 loop-again : tie.Need-loop-again Inv-loop μ-loop
 loop-again c = simp length-set (omega arith)
 
-same-length : tie.Need-same-length Inv-loop μ-loop
-same-length c = omega arith
+same-length-2 : tie.Need-same-length-2 Inv-loop μ-loop
+same-length-2 c = omega arith
 
 returns-2 : tie.Need-returns-2 Inv-loop μ-loop
 returns-2 c = tt
@@ -48,13 +51,14 @@ repeat-spec =
     (tie.spec
     Inv-loop
     μ-loop
-    returns
     loop-holds
+    same-length
+    returns
     sub-space
     slice-read-space
     slice-write-space
     add-i
     loop-less
     loop-again
-    same-length
+    same-length-2
     returns-2)
