@@ -51,9 +51,9 @@ pub fn load(case: Record, space: &[u8], base: &mut [u8; 65568]) {
 }
 
 // Calls the operation of a case with its board. Argument 6 is the length of the set, which the payload has before the changes.
-pub fn run(case: Record, space: &[u8], base: &[u8]) -> bool {
+pub fn run(case: Record, space: &[u8], base: &[u8]) {
     if case.w7 < case.w6 {
-        return false;
+        return print::no_case();
     }
     let from = case.w6 as usize;
     let changes = payload::part(space, from, (case.w7 - case.w6) as usize);
@@ -67,5 +67,4 @@ pub fn run(case: Record, space: &[u8], base: &[u8]) -> bool {
         12 => lines::part(case, board),
         _ => draw_text::run(payload::part(space, 0, from), board),
     }
-    true
 }

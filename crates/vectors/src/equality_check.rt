@@ -8,16 +8,16 @@ use group::Exponent;
 use words::Record;
 
 pub fn run(case: Record, space: &[u8]) {
-    let ws = payload::list(space, 0);
+    let figures = payload::figures(space);
     let proof = Equality {
-        b1: Element(ws[0]),
-        x1: Element(ws[1]),
-        b2: Element(ws[2]),
-        x2: Element(ws[3]),
-        a1: Element(ws[4]),
-        a2: Element(ws[5]),
-        c: Exponent(ws[6]),
-        r: Exponent(ws[7]),
+        b1: Element(figures.w0),
+        x1: Element(figures.w1),
+        b2: Element(figures.w2),
+        x2: Element(figures.w3),
+        a1: Element(figures.w4),
+        a2: Element(figures.w5),
+        c: Exponent(figures.w6),
+        r: Exponent(figures.w7),
     };
     print::check(b"equality ", equality::equality_check(case.w1, proof));
 }

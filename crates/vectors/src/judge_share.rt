@@ -6,8 +6,9 @@ use group::Element;
 use words::Record;
 
 pub fn run(case: Record, space: &[u8]) {
-    let y = Element(payload::word_from(space, 0));
-    let e = Element(payload::word_from(space, 4));
+    let figures = payload::figures(space);
+    let y = Element(figures.w0);
+    let e = Element(figures.w1);
     let record = payload::part(space, 8, case.w6 as usize);
     let answer = opened::judge_share(payload::round(case), case.w4, case.w5, y, e, record);
     print::element(b"judge_share ", answer);

@@ -29,8 +29,8 @@ fn read_payload(space: &mut [u8], count: usize) -> bool {
     io::read_full(STDIN_FILENO, &mut space[0..count]) == count
 }
 
-// Calls the operation of a case with its payload. False where it cannot.
-fn run(case: Record, space: &mut [u8], base: &mut [u8; 65568]) -> bool {
+// Calls the operation of a case with its payload.
+fn run(case: Record, space: &mut [u8], base: &mut [u8; 65568]) {
     let operation = case.w0;
     match operation {
         1 => digest::run(case, space),
@@ -39,18 +39,17 @@ fn run(case: Record, space: &mut [u8], base: &mut [u8; 65568]) -> bool {
         4 => opening::run(case, space),
         5 => recovery::run(case, space),
         6 => equality_check::run(case, space),
-        7 => return write_dealing::run(case, space),
+        7 => write_dealing::run(case, space),
         8 => judge_dealing::run(case, space),
-        9 => return write_share::run(case, space),
+        9 => write_share::run(case, space),
         10 => judge_share::run(case, space),
-        11..=13 => return boards::run(case, space, base),
+        11..=13 => boards::run(case, space, base),
         14 => boards::load(case, space, base),
-        _ => return false,
+        _ => print::no_case(),
     }
-    true
 }
 
-// Replays one case. False at the end of the input, and after a case that cannot be read or called.
+// Replays one case. False at the end of the input, and after a case that cannot be read.
 fn replay(base: &mut [u8; 65568]) -> bool {
     let mut header = [0u8; 32];
     let got = io::read_full(STDIN_FILENO, &mut header);
@@ -60,11 +59,12 @@ fn replay(base: &mut [u8; 65568]) -> bool {
     let case = words::read_record(&header);
     // The longest payload is a board with one record too many.
     let mut space = [0u8; 65568];
-    if got == 32 && read_payload(&mut space, case.w7 as usize) && run(case, &mut space, base) {
-        return true;
+    if got < 32 || !read_payload(&mut space, case.w7 as usize) {
+        print::no_case();
+        return false;
     }
-    print::text(b"no case\n");
-    false
+    run(case, &mut space, base);
+    true
 }
 
 // The turns are counted, since nothing says that the input ends.

@@ -11,6 +11,15 @@ pub fn round(case: Record) -> Round {
     }
 }
 
+// The first eight words of a payload. They are 0 where the space ends before.
+pub fn figures(space: &[u8]) -> Record {
+    let zeros = [0u8; 32];
+    if space.len() < 32 {
+        return words::read_record(&zeros);
+    }
+    words::read_record(&space[0..32])
+}
+
 // The word that begins at byte k. It is 0 where the space ends before.
 pub fn word_from(space: &[u8], k: usize) -> u32 {
     if space.len() < 4 {

@@ -5,6 +5,11 @@ use sha256::DigestAnswer;
 use sharing::CheckAnswer;
 use words::Record;
 
+// A case that cannot be read or called.
+pub fn no_case() {
+    text(b"no case\n");
+}
+
 pub fn text(t: &[u8]) {
     io::write_all(STDOUT_FILENO, t);
 }

@@ -5,25 +5,23 @@ use crate::payload;
 use crate::print;
 use words::Record;
 
-pub fn run(case: Record, space: &mut [u8]) -> bool {
-    let size = payload::word_from(space, 0) as usize;
+pub fn run(case: Record, space: &mut [u8]) {
+    let figures = payload::figures(space);
+    let size = figures.w0 as usize;
     if space.len() < size {
-        return false;
+        return print::no_case();
     }
-    let a = payload::word_from(space, 4);
-    let b = payload::word_from(space, 8);
-    let c = payload::word_from(space, 12);
+    let from = 4 + figures.w1 as usize;
     let ys = payload::list(space, 4);
-    let cs = payload::list(space, 4 + a as usize);
-    let ws = payload::list(space, 4 + a as usize + b as usize);
+    let cs = payload::list(space, from);
+    let ws = payload::list(space, from + figures.w2 as usize);
     let answer = dealt::write_dealing(
         payload::round(case),
         case.w4,
-        payload::first(&ys, a),
-        payload::first(&cs, b),
-        payload::first(&ws, c),
+        payload::first(&ys, figures.w1),
+        payload::first(&cs, figures.w2),
+        payload::first(&ws, figures.w3),
         &mut space[0..size],
     );
     print::written(b"write_dealing ", answer, payload::part(space, 0, size));
-    true
 }

@@ -6,16 +6,16 @@ use group::Element;
 use group::Exponent;
 use words::Record;
 
-pub fn run(case: Record, space: &mut [u8]) -> bool {
+pub fn run(case: Record, space: &mut [u8]) {
     let size = case.w6 as usize;
     if space.len() < size {
-        return false;
+        return print::no_case();
     }
-    let e = Element(payload::word_from(space, 0));
-    let x = Exponent(payload::word_from(space, 4));
-    let w = Exponent(payload::word_from(space, 8));
+    let figures = payload::figures(space);
+    let e = Element(figures.w0);
+    let x = Exponent(figures.w1);
+    let w = Exponent(figures.w2);
     let rd = payload::round(case);
     let answer = opened::write_share(rd, case.w4, case.w5, e, x, w, &mut space[0..size]);
     print::written(b"write_share ", answer, payload::part(space, 0, size));
-    true
 }
