@@ -220,12 +220,9 @@ mod tests {
     use crate::modular::value_at;
     use crate::posting::{opening_record, Members};
     use crate::record::Record;
+    use crate::round::FOUR;
 
-    const FIGURES: Figures = Figures {
-        number: 3,
-        n: 4,
-        t: 2,
-    };
+    const FIGURES: Figures = Figures { number: 3, ..FOUR };
 
     /// The secrets of the dealings of `everything`.
     const SECRETS: [u32; 4] = [7, 100, 0, 2_147_483_542];

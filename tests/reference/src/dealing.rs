@@ -89,12 +89,9 @@ pub fn judge_dealing(figures: Figures, dealer: u32, keys: &[u32], bytes: &[u8]) 
 mod tests {
     use super::*;
     use crate::group::H;
+    use crate::round::FOUR;
 
-    const FIGURES: Figures = Figures {
-        number: 3,
-        n: 4,
-        t: 2,
-    };
+    const FIGURES: Figures = Figures { number: 3, ..FOUR };
 
     fn keys() -> [u32; 4] {
         let group = FIGURES.round().unwrap().group;
@@ -134,24 +131,11 @@ mod tests {
     fn a_dealing_of_no_polynomial_is_refused() {
         let round = FIGURES.round().unwrap();
         let mut lines = [0; 128];
-        deal(
-            &round,
-            3,
-            &keys(),
-            &[8, 13, 18, 24],
-            &[1, 2, 3, 4],
-            &mut lines,
-        );
-        assert_eq!(judge_dealing(FIGURES, 3, &keys(), &lines), Err(9));
-        deal(
-            &round,
-            3,
-            &keys(),
-            &[8, 13, 18, 23],
-            &[1, 2, 3, 4],
-            &mut lines,
-        );
-        assert_eq!(judge_dealing(FIGURES, 3, &keys(), &lines), Ok(()));
+        for (last, answer) in [(24, Err(9)), (23, Ok(()))] {
+            let exponents = [8, 13, 18, last];
+            deal(&round, 3, &keys(), &exponents, &[1, 2, 3, 4], &mut lines);
+            assert_eq!(judge_dealing(FIGURES, 3, &keys(), &lines), answer);
+        }
     }
 
     #[test]

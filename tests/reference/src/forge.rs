@@ -7,15 +7,10 @@ use crate::group::G;
 use crate::modular::value_at;
 use crate::posting::{opening_record, Members};
 use crate::record::{self, Record, SHARE};
-use crate::round::Figures;
+use crate::round::FOUR;
 use crate::share::judge_share;
 
-/// The round, the keys, the polynomials of the first two dealers and the nonces of the first, for both pairs of boards.
-const FOUR: Figures = Figures {
-    number: 1,
-    n: 4,
-    t: 2,
-};
+/// The secret keys, the polynomials of the first two dealers and the nonces of the first, for both pairs of boards.
 const SECRET_KEYS: [u32; 4] = [5, 2, 7, 3];
 const FIRST: [u32; 2] = [3, 5];
 const SECOND: [u32; 2] = [6, 4];

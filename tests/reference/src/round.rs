@@ -14,6 +14,13 @@ pub struct Figures {
     pub t: u32,
 }
 
+/// The round of the figures by hand.
+pub const FOUR: Figures = Figures {
+    number: 1,
+    n: 4,
+    t: 2,
+};
+
 /// A round whose figures are proper.
 pub struct Round {
     pub number: u32,

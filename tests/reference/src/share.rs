@@ -65,12 +65,9 @@ pub fn judge_share(
 #[cfg(test)]
 mod tests {
     use super::*;
+    use crate::round::FOUR;
 
-    const FIGURES: Figures = Figures {
-        number: 3,
-        n: 4,
-        t: 2,
-    };
+    const FIGURES: Figures = Figures { number: 3, ..FOUR };
     const SECRET_KEY: u32 = 1_000_000_007;
 
     fn key() -> u32 {

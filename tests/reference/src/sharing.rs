@@ -103,12 +103,8 @@ pub fn opening(figures: Figures, commitments: &[u32], s: u32) -> Answer<()> {
 mod tests {
     use super::*;
     use crate::group::H;
+    use crate::round::FOUR;
 
-    const FOUR: Figures = Figures {
-        number: 1,
-        n: 4,
-        t: 2,
-    };
     const CARRIED: [u32; 4] = [9, 16, 8, 4];
 
     fn powers(figures: Figures, base: u32, coefficients: &[u32]) -> Vec<u32> {

@@ -1,12 +1,12 @@
 //! Cases of the degree check. The arguments are group, n, t, and the numbers of commitments and of coefficients; the
 //! payload has these.
 
-use super::faults::{singly_and_in_pairs, Fault};
-use super::sample::{fours, list, other_element, places, proper, rounds, FOUR};
+use super::faults::{in_round, Fault, InRound};
+use super::sample::{list, other_element, over_rounds, places, proper};
 use super::{bytes, passed, Operation, Vectors};
 use crate::group::G;
 use crate::numbers::Numbers;
-use crate::round::Figures;
+use crate::round::{Figures, FOUR};
 use crate::sharing::{degree_check, powers_at};
 
 const DEGREE: Operation = Operation {
@@ -21,7 +21,11 @@ struct Case {
     coefficients: Vec<u32>,
 }
 
-impl Case {
+impl InRound for Case {
+    fn figures(&mut self) -> &mut Figures {
+        &mut self.figures
+    }
+
     fn add(&self, vectors: &mut Vectors) -> Option<u32> {
         let Figures { number, n, t } = self.figures;
         let lengths = [&self.commitments, &self.coefficients].map(|list| list.len() as u32);
@@ -35,12 +39,7 @@ impl Case {
 pub fn add(vectors: &mut Vectors) {
     by_hand(vectors);
     let mut numbers = Numbers::new(3);
-    for figures in rounds() {
-        varied(vectors, figures, &mut numbers);
-    }
-    for figures in fours() {
-        refused(vectors, figures, &mut numbers);
-    }
+    over_rounds(vectors, &mut numbers, varied, refused);
 }
 
 /// The commitments by hand with the check polynomials 1 and the member number; with the third changed to 9, and the
@@ -105,14 +104,7 @@ fn refused(vectors: &mut Vectors, figures: Figures, numbers: &mut Numbers) {
         coefficients: vec![1, 1],
     };
     let other = |v: &mut u32| *v = other_element(&round.group, *v);
-    let faults: [Fault<Case>; 17] = [
-        (1, &|c| c.figures.number = 0),
-        (1, &|c| c.figures.number = 4),
-        (1, &|c| c.figures.number = u32::MAX),
-        (2, &|c| c.figures.n = 0),
-        (2, &|c| c.figures.n = 32),
-        (2, &|c| c.figures.t = 0),
-        (2, &|c| c.figures.t = 5),
+    let faults: [Fault<Case>; 10] = [
         (3, &|c| c.commitments.truncate(3)),
         (3, &|c| c.commitments.push(1)),
         (3, &|c| c.coefficients.truncate(1)),
@@ -125,5 +117,5 @@ fn refused(vectors: &mut Vectors, figures: Figures, numbers: &mut Numbers) {
         (9, &|c| other(&mut c.commitments[1])),
     ];
     let order = [1, 2, 3, 6, 7, 9];
-    singly_and_in_pairs(&order, &carried, &faults, |case| case.add(vectors));
+    in_round(vectors, &order, &carried, &faults);
 }

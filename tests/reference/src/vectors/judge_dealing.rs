@@ -1,7 +1,7 @@
 //! Cases of judging a dealing. The arguments are group, n, t, the dealer, the number of keys and the lines' length in
 //! bytes; the payload has the keys and the lines.
 
-use super::faults::{singly_and_in_pairs, Fault};
+use super::faults::{in_round, Fault, InRound};
 use super::sample::{fours, keys, list, other_element, other_exponent, proper, rounds};
 use super::{bytes, passed, Operation, Vectors};
 use crate::dealing::{deal, judge_dealing, write_dealing};
@@ -61,6 +61,12 @@ impl Case {
         let mut record = record::read(line);
         record[word] = change(record[word]);
         record::write(record, line);
+    }
+}
+
+impl InRound for Case {
+    fn figures(&mut self) -> &mut Figures {
+        &mut self.figures
     }
 
     fn add(&self, vectors: &mut Vectors) -> Option<u32> {
@@ -213,13 +219,7 @@ fn refused(vectors: &mut Vectors, right: &Case) {
     let (p, q) = (group.p, group.q);
     let element = |v| other_element(&group, v);
     let exponent = |e| other_exponent(&group, e);
-    let faults: [Fault<Case>; 30] = [
-        (1, &|c| c.figures.number = 0),
-        (1, &|c| c.figures.number = 4),
-        (2, &|c| c.figures.n = 0),
-        (2, &|c| c.figures.n = 32),
-        (2, &|c| c.figures.t = 0),
-        (2, &|c| c.figures.t = 5),
+    let faults: [Fault<Case>; 24] = [
         (8, &|c| c.dealer = 0),
         (8, &|c| c.dealer = 5),
         (3, &|c| c.keys.truncate(3)),
@@ -245,5 +245,5 @@ fn refused(vectors: &mut Vectors, right: &Case) {
         (10, &|c| c.change(0, 5, exponent)),
         (10, &|c| c.change(1, 6, exponent)),
     ];
-    singly_and_in_pairs(&ORDER, right, &faults, |case| case.add(vectors));
+    in_round(vectors, &ORDER, right, &faults);
 }

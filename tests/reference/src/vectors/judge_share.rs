@@ -1,13 +1,13 @@
 //! Cases of judging an opened share. The arguments are group, n, t, the dealer, the member and the record's length in
 //! bytes; the payload has y, Y and the record.
 
-use super::faults::{singly_and_in_pairs, Fault};
-use super::sample::{fours, other_element, other_exponent, proper, rounds, FOUR};
+use super::faults::{in_round, Fault, InRound};
+use super::sample::{fours, other_element, other_exponent, proper, rounds};
 use super::{bytes, Operation, Vectors};
 use crate::group::{G, H};
 use crate::numbers::Numbers;
 use crate::record::{self, SHARE, SIZE};
-use crate::round::Figures;
+use crate::round::{Figures, FOUR};
 use crate::share::{judge_share, write_share};
 
 const JUDGE_SHARE: Operation = Operation {
@@ -66,6 +66,12 @@ impl Case {
         let mut record = record::read(&self.record);
         record[word] = change(record[word]);
         record::write(record, &mut self.record);
+    }
+}
+
+impl InRound for Case {
+    fn figures(&mut self) -> &mut Figures {
+        &mut self.figures
     }
 
     fn add(&self, vectors: &mut Vectors) -> Option<u32> {
@@ -199,13 +205,7 @@ fn refused(vectors: &mut Vectors, any: &Case) {
     let group = proper(any.figures).group;
     let (p, q) = (group.p, group.q);
     let exponent = |e| other_exponent(&group, e);
-    let faults: [Fault<Case>; 31] = [
-        (1, &|c| c.figures.number = 0),
-        (1, &|c| c.figures.number = 4),
-        (2, &|c| c.figures.n = 0),
-        (2, &|c| c.figures.n = 32),
-        (2, &|c| c.figures.t = 0),
-        (2, &|c| c.figures.t = 5),
+    let faults: [Fault<Case>; 25] = [
         (8, &|c| c.dealer = 0),
         (8, &|c| c.dealer = 5),
         (8, &|c| c.member = 0),
@@ -232,7 +232,7 @@ fn refused(vectors: &mut Vectors, any: &Case) {
         (10, &|c| c.change(4, exponent)),
         (10, &|c| c.change(5, exponent)),
     ];
-    singly_and_in_pairs(&ORDER, any, &faults, |case| case.add(vectors));
+    in_round(vectors, &ORDER, any, &faults);
 }
 
 fn too_short(vectors: &mut Vectors, any: &Case) {

@@ -1,12 +1,12 @@
 //! Cases of the opening. The arguments are group, n, t, the opening and the number of commitments; the payload has
 //! these.
 
-use super::faults::{singly_and_in_pairs, Fault};
-use super::sample::{fours, list, other_element, places, proper, rounds, FOUR};
+use super::faults::{in_round, Fault, InRound};
+use super::sample::{list, other_element, over_rounds, places, proper};
 use super::{bytes, passed, Operation, Vectors};
 use crate::group::G;
 use crate::numbers::Numbers;
-use crate::round::Figures;
+use crate::round::{Figures, FOUR};
 use crate::sharing::{opening, powers_at};
 
 const OPENING: Operation = Operation {
@@ -21,7 +21,11 @@ struct Case {
     s: u32,
 }
 
-impl Case {
+impl InRound for Case {
+    fn figures(&mut self) -> &mut Figures {
+        &mut self.figures
+    }
+
     fn add(&self, vectors: &mut Vectors) -> Option<u32> {
         let Figures { number, n, t } = self.figures;
         let arguments = [number, n, t, self.s, self.commitments.len() as u32];
@@ -38,12 +42,7 @@ impl Case {
 pub fn add(vectors: &mut Vectors) {
     by_hand(vectors);
     let mut numbers = Numbers::new(4);
-    for figures in rounds() {
-        varied(vectors, figures, &mut numbers);
-    }
-    for figures in fours() {
-        refused(vectors, figures, &mut numbers);
-    }
+    over_rounds(vectors, &mut numbers, varied, refused);
 }
 
 /// Every opening of the commitments by hand, and of others that no polynomial carries.
@@ -99,14 +98,7 @@ fn refused(vectors: &mut Vectors, figures: Figures, numbers: &mut Numbers) {
         s: polynomial[0],
     };
     let other = |v: &mut u32| *v = other_element(&round.group, *v);
-    let faults: [Fault<Case>; 16] = [
-        (1, &|c| c.figures.number = 0),
-        (1, &|c| c.figures.number = 4),
-        (1, &|c| c.figures.number = u32::MAX),
-        (2, &|c| c.figures.n = 0),
-        (2, &|c| c.figures.n = 32),
-        (2, &|c| c.figures.t = 0),
-        (2, &|c| c.figures.t = 5),
+    let faults: [Fault<Case>; 9] = [
         (3, &|c| c.commitments.truncate(3)),
         (3, &|c| c.commitments.push(1)),
         (6, &|c| c.commitments[0] = 0),
@@ -118,5 +110,5 @@ fn refused(vectors: &mut Vectors, figures: Figures, numbers: &mut Numbers) {
         (11, &|c| other(&mut c.commitments[1])),
     ];
     let order = [1, 2, 3, 6, 7, 11];
-    singly_and_in_pairs(&order, &right, &faults, |case| case.add(vectors));
+    in_round(vectors, &order, &right, &faults);
 }

@@ -1,11 +1,11 @@
 //! Cases of recovery. The arguments are group, n, t, and the numbers of members and of shares; the payload has these.
 
-use super::faults::{singly_and_in_pairs, Fault};
-use super::sample::{fours, list, places, proper, rounds, FOUR};
+use super::faults::{in_round, Fault, InRound};
+use super::sample::{list, over_rounds, places, proper};
 use super::{bytes, Operation, Vectors};
 use crate::group::{G, H};
 use crate::numbers::Numbers;
-use crate::round::{Figures, Round};
+use crate::round::{Figures, Round, FOUR};
 use crate::sharing::{powers_at, recovery};
 
 const RECOVERY: Operation = Operation {
@@ -29,6 +29,12 @@ impl Case {
             shares: members.iter().map(|&i| all[i as usize - 1]).collect(),
         }
     }
+}
+
+impl InRound for Case {
+    fn figures(&mut self) -> &mut Figures {
+        &mut self.figures
+    }
 
     fn add(&self, vectors: &mut Vectors) -> Option<u32> {
         let Figures { number, n, t } = self.figures;
@@ -48,12 +54,7 @@ impl Case {
 pub fn add(vectors: &mut Vectors) {
     by_hand(vectors);
     let mut numbers = Numbers::new(5);
-    for figures in rounds() {
-        varied(vectors, figures, &mut numbers);
-    }
-    for figures in fours() {
-        refused(vectors, figures, &mut numbers);
-    }
+    over_rounds(vectors, &mut numbers, varied, refused);
 }
 
 /// Lists of the members 1 to n, none of them twice, in every order and of every length.
@@ -126,14 +127,7 @@ fn refused(vectors: &mut Vectors, figures: Figures, numbers: &mut Numbers) {
     let p = round.group.p;
     let all = powers_at(&round, H, &list(numbers, 2, round.group.q));
     let quorum = Case::of(figures, &[3, 1, 4], &all);
-    let faults: [Fault<Case>; 18] = [
-        (1, &|c| c.figures.number = 0),
-        (1, &|c| c.figures.number = 4),
-        (1, &|c| c.figures.number = u32::MAX),
-        (2, &|c| c.figures.n = 0),
-        (2, &|c| c.figures.n = 32),
-        (2, &|c| c.figures.t = 0),
-        (2, &|c| c.figures.t = 5),
+    let faults: [Fault<Case>; 11] = [
         (3, &|c| c.members.push(2)),
         (3, &|c| c.shares.truncate(2)),
         (8, &|c| {
@@ -152,5 +146,5 @@ fn refused(vectors: &mut Vectors, figures: Figures, numbers: &mut Numbers) {
         (6, &|c| c.shares.fill(p)),
     ];
     let order = [1, 2, 3, 8, 6];
-    singly_and_in_pairs(&order, &quorum, &faults, |case| case.add(vectors));
+    in_round(vectors, &order, &quorum, &faults);
 }

@@ -1,15 +1,9 @@
 //! Rounds and figures of which cases are made.
 
+use super::Vectors;
 use crate::group::{Group, G, H};
 use crate::numbers::Numbers;
-use crate::round::{Figures, Round};
-
-/// The round of the figures by hand.
-pub const FOUR: Figures = Figures {
-    number: 1,
-    n: 4,
-    t: 2,
-};
+use crate::round::{Figures, Round, FOUR};
 
 /// n and t of the sample's rounds in every group: with n = t, with t = 1, and up to the most members in group 1.
 const EVERYWHERE: [(u32, u32); 9] = [
@@ -42,6 +36,21 @@ pub fn rounds() -> Vec<Figures> {
 /// Rounds of four members and threshold two, in the smallest and the largest group.
 pub fn fours() -> [Figures; 2] {
     [1, 3].map(|number| Figures { number, ..FOUR })
+}
+
+/// Adds an operation's varied cases of every round, and its refused ones of the rounds of four.
+pub fn over_rounds(
+    vectors: &mut Vectors,
+    numbers: &mut Numbers,
+    varied: impl Fn(&mut Vectors, Figures, &mut Numbers),
+    refused: impl Fn(&mut Vectors, Figures, &mut Numbers),
+) {
+    for figures in rounds() {
+        varied(vectors, figures, numbers);
+    }
+    for figures in fours() {
+        refused(vectors, figures, numbers);
+    }
 }
 
 pub fn proper(figures: Figures) -> Round {

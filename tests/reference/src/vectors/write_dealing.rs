@@ -2,7 +2,7 @@
 //! numbers of keys, coefficients and nonces, a word each, then these lists; the buffer is lent with the payload's first
 //! bytes in it. The line has the buffer's bytes at the end.
 
-use super::faults::{singly_and_in_pairs, Fault};
+use super::faults::{in_round, Fault, InRound};
 use super::sample::{keys, list, proper, rounds};
 use super::{buffered, Operation, Vectors};
 use crate::dealing::write_dealing;
@@ -37,6 +37,12 @@ impl Case {
             nonces: list(numbers, round.n, round.group.q),
             size: 32 * round.n as usize,
         }
+    }
+}
+
+impl InRound for Case {
+    fn figures(&mut self) -> &mut Figures {
+        &mut self.figures
     }
 
     fn add(&self, vectors: &mut Vectors) -> Option<u32> {
@@ -101,13 +107,7 @@ fn varied(vectors: &mut Vectors, figures: Figures, numbers: &mut Numbers) {
 fn refused(vectors: &mut Vectors, figures: Figures, numbers: &mut Numbers) {
     let group = proper(figures).group;
     let (p, q) = (group.p, group.q);
-    let faults: [Fault<Case>; 27] = [
-        (1, &|c| c.figures.number = 0),
-        (1, &|c| c.figures.number = 4),
-        (2, &|c| c.figures.n = 0),
-        (2, &|c| c.figures.n = 32),
-        (2, &|c| c.figures.t = 0),
-        (2, &|c| c.figures.t = 3),
+    let faults: [Fault<Case>; 21] = [
         (8, &|c| c.dealer = 0),
         (8, &|c| c.dealer = 3),
         (8, &|c| c.dealer = u32::MAX),
@@ -132,7 +132,7 @@ fn refused(vectors: &mut Vectors, figures: Figures, numbers: &mut Numbers) {
     ];
     let any = Case::of(figures, 2, numbers);
     let order = [1, 2, 8, 3, 6, 7];
-    singly_and_in_pairs(&order, &any, &faults, |case| case.add(vectors));
+    in_round(vectors, &order, &any, &faults);
     let mut short = any.clone();
     short.coefficients.clear();
     assert_eq!(short.add(vectors), Some(3));

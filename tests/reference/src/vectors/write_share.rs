@@ -2,12 +2,12 @@
 //! payload has Y, the secret key and the nonce; the buffer is lent with the payload's first bytes in it. The line has
 //! the buffer's bytes at the end.
 
-use super::faults::{singly_and_in_pairs, Fault};
-use super::sample::{fours, proper, rounds, FOUR};
+use super::faults::{in_round, Fault, InRound};
+use super::sample::{over_rounds, proper};
 use super::{buffered, Operation, Vectors};
 use crate::group::G;
 use crate::numbers::Numbers;
-use crate::round::Figures;
+use crate::round::{Figures, FOUR};
 use crate::share::write_share;
 
 const WRITE_SHARE: Operation = Operation {
@@ -40,6 +40,12 @@ impl Case {
             size: 32,
         }
     }
+}
+
+impl InRound for Case {
+    fn figures(&mut self) -> &mut Figures {
+        &mut self.figures
+    }
 
     fn add(&self, vectors: &mut Vectors) -> Option<u32> {
         let Figures { number, n, t } = self.figures;
@@ -62,12 +68,7 @@ impl Case {
 pub fn add(vectors: &mut Vectors) {
     let mut numbers = Numbers::new(9);
     every_key(vectors, &mut numbers);
-    for figures in rounds() {
-        varied(vectors, figures, &mut numbers);
-    }
-    for figures in fours() {
-        refused(vectors, figures, &mut numbers);
-    }
+    over_rounds(vectors, &mut numbers, varied, refused);
 }
 
 /// Every Y and every secret key of group 1, and some that are none.
@@ -109,13 +110,7 @@ fn varied(vectors: &mut Vectors, figures: Figures, numbers: &mut Numbers) {
 fn refused(vectors: &mut Vectors, figures: Figures, numbers: &mut Numbers) {
     let group = proper(figures).group;
     let (p, q) = (group.p, group.q);
-    let faults: [Fault<Case>; 21] = [
-        (1, &|c| c.figures.number = 0),
-        (1, &|c| c.figures.number = 4),
-        (2, &|c| c.figures.n = 0),
-        (2, &|c| c.figures.n = 32),
-        (2, &|c| c.figures.t = 0),
-        (2, &|c| c.figures.t = 5),
+    let faults: [Fault<Case>; 15] = [
         (8, &|c| c.dealer = 0),
         (8, &|c| c.dealer = 5),
         (8, &|c| c.member = 0),
@@ -134,5 +129,5 @@ fn refused(vectors: &mut Vectors, figures: Figures, numbers: &mut Numbers) {
     ];
     let any = Case::any(figures, numbers);
     let order = [1, 2, 8, 3, 6, 7];
-    singly_and_in_pairs(&order, &any, &faults, |case| case.add(vectors));
+    in_round(vectors, &order, &any, &faults);
 }

@@ -1,6 +1,6 @@
 //! Boards with figures that are forged, or posted in another place than their own.
 
-use super::super::sample::{list, proper, FOUR};
+use super::super::sample::{list, proper};
 use super::super::Vectors;
 use super::posted::{any_dealing, any_members, is_line, is_opening, is_share, Posted};
 use super::{add_files, refused_by};
@@ -8,7 +8,7 @@ use crate::forge;
 use crate::group::G;
 use crate::numbers::Numbers;
 use crate::record::{Record, KEY, LINE, OPENING, SHARE};
-use crate::round::Figures;
+use crate::round::{Figures, FOUR};
 
 pub fn add(vectors: &mut Vectors, figures: Figures, all: &Posted) {
     openings(vectors, figures, all);

@@ -2,7 +2,7 @@
 //! printed. The arguments are group, n, t, the dealer and the base board's length in bytes; the payload has the board
 //! as changes of the base.
 
-use super::super::faults::{singly_and_in_pairs, Fault};
+use super::super::faults::{in_round, Fault, InRound};
 use super::super::sample::places;
 use super::super::{hex, passed, Operation, Vectors};
 use super::posted::{is_key, is_line, is_opening, is_share, Posted};
@@ -29,7 +29,11 @@ struct Case {
     posted: Posted,
 }
 
-impl Case {
+impl InRound for Case {
+    fn figures(&mut self) -> &mut Figures {
+        &mut self.figures
+    }
+
     /// Adds a case of each operation.
     fn add(&self, vectors: &mut Vectors) -> Option<u32> {
         let Figures { number, n, t } = self.figures;
@@ -97,13 +101,7 @@ fn refused(vectors: &mut Vectors, figures: Figures, posted: &Posted) {
         dealer: 3,
         posted: posted.clone(),
     };
-    let faults: [Fault<Case>; 20] = [
-        (1, &|c| c.figures.number = 0),
-        (1, &|c| c.figures.number = 4),
-        (2, &|c| c.figures.n = 0),
-        (2, &|c| c.figures.n = 32),
-        (2, &|c| c.figures.t = 0),
-        (2, &|c| c.figures.t = 5),
+    let faults: [Fault<Case>; 14] = [
         (8, &|c| c.dealer = 0),
         (8, &|c| c.dealer = 5),
         (8, &|c| c.dealer = u32::MAX),
@@ -120,7 +118,7 @@ fn refused(vectors: &mut Vectors, figures: Figures, posted: &Posted) {
         (5, &|c| swap(c, KEY, 0)),
     ];
     let order = [1, 2, 8, 3, 4, 5];
-    singly_and_in_pairs(&order, &right, &faults, |case| case.add(vectors));
+    in_round(vectors, &order, &right, &faults);
 }
 
 /// The record of a dealer's second member after that of the third.
