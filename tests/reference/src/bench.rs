@@ -1,4 +1,6 @@
-//! Input of the bench: boards on which everyone has dealt, and a case of the digest.
+//! Input of the bench: boards on which everyone has dealt, and cases of the operations.
+
+pub mod operations;
 
 use crate::draw::{BOARD_FILE, SET_FILE};
 use crate::numbers::Numbers;

@@ -15,6 +15,7 @@ mod numbers;
 mod posting;
 mod primes;
 mod record;
+mod replay;
 mod round;
 mod sha256;
 mod share;
@@ -23,7 +24,7 @@ mod vectors;
 
 use round::Figures;
 use std::error::Error;
-use std::io::{self, Write};
+use std::io::{self, BufWriter, Write};
 use std::path::Path;
 use std::process::ExitCode;
 use std::{env, fs};
@@ -32,7 +33,8 @@ type Done = Result<(), Box<dyn Error>>;
 
 const USAGE: &str =
     "usage: reference vectors DIR | forge DIR | example DIR | draw DIR | largest | digest FILE
-       reference board GROUP N T opened|recovered DIR | case FILE";
+       reference board GROUP N T opened|recovered DIR | case FILE
+       reference repeat OPERATION COUNT DIR | replay FILE";
 
 /// The primes p and q of group 3: the largest below 2^32.
 fn largest() -> (u64, u64) {
@@ -74,6 +76,15 @@ fn run(words: &[String]) -> Done {
             write_files(folder, &bench::round(figures, source == "opened"))?;
         }
         ["case", file] => io::stdout().write_all(&bench::case(&fs::read(file)?))?,
+        ["repeat", operation, count, folder] => {
+            let files = bench::operations::files(operation, count.parse()?);
+            write_files(folder, &files.ok_or("there is no such operation")?)?;
+        }
+        ["replay", file] => {
+            let mut out = BufWriter::new(io::stdout().lock());
+            replay::replay(&fs::read(file)?, &mut out)?;
+            out.flush()?;
+        }
         ["largest"] => {
             let (p, q) = largest();
             println!("{p} {q}");

@@ -20,7 +20,7 @@ mod judge_share;
 mod opening;
 mod power;
 mod recovery;
-mod sample;
+pub mod sample;
 mod write_dealing;
 mod write_share;
 
@@ -103,7 +103,7 @@ fn passed(answer: Answer<()>) -> Answer<String> {
 
 /// The payload of a writer's case: its words, and bytes behind them up to the buffer's size. The buffer is lent with the
 /// payload's first bytes in it.
-fn buffered(words: &[u32], size: usize) -> Vec<u8> {
+pub fn buffered(words: &[u32], size: usize) -> Vec<u8> {
     let mut payload = bytes(words);
     while payload.len() < size {
         payload.push(0xa5);
@@ -112,7 +112,7 @@ fn buffered(words: &[u32], size: usize) -> Vec<u8> {
 }
 
 /// The bytes of words, the most significant first.
-fn bytes(words: &[u32]) -> Vec<u8> {
+pub fn bytes(words: &[u32]) -> Vec<u8> {
     words.iter().flat_map(|word| word.to_be_bytes()).collect()
 }
 

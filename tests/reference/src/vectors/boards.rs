@@ -20,7 +20,6 @@ use crate::round::Figures;
 use posted::Posted;
 use splices::splices;
 
-#[cfg(test)]
 pub use splices::applied;
 
 const TEXT: Operation = Operation {

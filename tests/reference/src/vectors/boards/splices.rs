@@ -61,7 +61,6 @@ fn push(splices: &mut Vec<u8>, place: usize, removed: &[u8], put: &[u8]) {
 }
 
 /// The board that changes make of the base.
-#[cfg(test)]
 pub fn applied(base: &[u8], mut splices: &[u8]) -> Vec<u8> {
     let word = |splices: &[u8], k: usize| {
         let [a, b, c, d, ..] = splices[4 * k..] else {

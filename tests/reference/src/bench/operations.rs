@@ -1,0 +1,253 @@
+//! An accepted case of each operation on the largest figures, repeated; and the same cases with a group that does not
+//! exist, which are refused at once. What the first take beyond the second is the operation.
+
+use crate::answer::Answer;
+use crate::dealing::write_dealing;
+use crate::equality::response;
+use crate::group::{G, H};
+use crate::numbers::Numbers;
+use crate::record::{self, SIZE};
+use crate::round::{Figures, Round};
+use crate::share::write_share;
+use crate::sharing::powers_at;
+use crate::vectors::boards::posted::{any_members, is_line, Posted};
+use crate::vectors::sample::{keys, list, proper};
+use crate::vectors::{buffered, bytes};
+
+const LARGEST: Figures = Figures {
+    number: 3,
+    n: 31,
+    t: 16,
+};
+
+/// The dealer and the member of the cases.
+const DEALER: u32 = 31;
+const MEMBER: u32 = 31;
+
+/// A case: its operation's number, the arguments behind the group, and the payload.
+struct Case {
+    operation: u32,
+    arguments: Vec<u32>,
+    payload: Vec<u8>,
+}
+
+impl Case {
+    /// A case of an operation whose next arguments are n and t.
+    fn of(operation: u32, arguments: &[u32], payload: Vec<u8>) -> Case {
+        Case {
+            operation,
+            arguments: [&[LARGEST.n, LARGEST.t], arguments].concat(),
+            payload,
+        }
+    }
+
+    /// The case's bytes, with this group.
+    fn bytes(&self, number: u32) -> Vec<u8> {
+        let mut header = [0; 8];
+        header[0] = self.operation;
+        header[1] = number;
+        header[2..7][..self.arguments.len()].copy_from_slice(&self.arguments);
+        header[7] = self.payload.len() as u32;
+        [&record::bytes([header])[..], &self.payload].concat()
+    }
+}
+
+/// Files of so many accepted cases of an operation, and of so many refused ones. None where there is no such operation.
+pub fn files(name: &str, count: usize) -> Option<[(&'static str, Vec<u8>); 2]> {
+    let (load, case) = case(name)?;
+    let repeated = |number| [load.clone(), case.bytes(number).repeat(count)].concat();
+    Some([
+        ("accepted", repeated(LARGEST.number)),
+        ("refused", repeated(0)),
+    ])
+}
+
+/// What has to be loaded before the case, and the case.
+fn case(name: &str) -> Option<(Vec<u8>, Case)> {
+    let round = proper(LARGEST);
+    let numbers = &mut Numbers::new(41);
+    let case = match name {
+        "power" => power(&round),
+        "degree" => degree(&round, numbers),
+        "opening" => opening(&round, numbers),
+        "recovery-t" => recovery(&round, round.t, numbers),
+        "recovery-n" => recovery(&round, round.n, numbers),
+        "equality" => equality(&round, numbers),
+        "write_dealing" => write_dealing_case(&round, numbers),
+        "judge_dealing" => judge_dealing(&round, numbers),
+        "write_share" => write_share_case(&round, numbers),
+        "judge_share" => judge_share(&round, numbers),
+        "lines_check" => return Some(lines(11, |_| false, numbers)),
+        "lines" => return Some(lines(12, |_| false, numbers)),
+        "line" => return Some(lines(12, |member| member != MEMBER, numbers)),
+        _ => return None,
+    };
+    Some((Vec::new(), case))
+}
+
+/// The largest exponent, which gives the inverse. This is printed with one digit, as the number of the refusal is.
+fn power(round: &Round) -> Case {
+    let largest = round.group.q - 1;
+    Case {
+        operation: 2,
+        arguments: vec![round.group.power(H, largest), largest],
+        payload: Vec::new(),
+    }
+}
+
+fn degree(round: &Round, numbers: &mut Numbers) -> Case {
+    let commitments = powers_at(round, G, &list(numbers, round.t, round.group.q));
+    let coefficients = list(numbers, round.n - round.t, round.group.q);
+    let payload = bytes(&[commitments, coefficients].concat());
+    Case::of(3, &[round.n, round.n - round.t], payload)
+}
+
+fn opening(round: &Round, numbers: &mut Numbers) -> Case {
+    let polynomial = list(numbers, round.t, round.group.q);
+    let commitments = powers_at(round, G, &polynomial);
+    Case::of(4, &[polynomial[0], round.n], bytes(&commitments))
+}
+
+/// From the so many highest members.
+fn recovery(round: &Round, count: u32, numbers: &mut Numbers) -> Case {
+    let shares = powers_at(round, H, &list(numbers, round.t, round.group.q));
+    let first = round.n - count;
+    let members: Vec<u32> = (first + 1..=round.n).collect();
+    let payload = bytes(&[&members[..], &shares[first as usize..]].concat());
+    Case::of(5, &[count, count], payload)
+}
+
+fn equality(round: &Round, numbers: &mut Numbers) -> Case {
+    let group = &round.group;
+    let [x, exponent, nonce, challenge] = [(); 4].map(|()| numbers.below(group.q));
+    let bases = [G, group.power(H, x)];
+    let [x1, x2] = bases.map(|base| group.power(base, exponent));
+    let [a1, a2] = bases.map(|base| group.power(base, nonce));
+    let r = response(group, nonce, challenge, exponent);
+    Case {
+        operation: 6,
+        arguments: Vec::new(),
+        payload: bytes(&[bases[0], x1, bases[1], x2, a1, a2, challenge, r]),
+    }
+}
+
+fn write_dealing_case(round: &Round, numbers: &mut Numbers) -> Case {
+    let size = SIZE * round.n as usize;
+    let mut words = vec![size as u32, round.n, round.t, round.n];
+    words.extend(keys(round, numbers));
+    words.extend(list(numbers, round.t, round.group.q));
+    words.extend(list(numbers, round.n, round.group.q));
+    Case::of(7, &[DEALER], buffered(&words, size))
+}
+
+fn judge_dealing(round: &Round, numbers: &mut Numbers) -> Case {
+    let keys = keys(round, numbers);
+    let polynomial = list(numbers, round.t, round.group.q);
+    let nonces = list(numbers, round.n, round.group.q);
+    let mut lines = vec![0; SIZE * round.n as usize];
+    written(write_dealing(
+        LARGEST,
+        DEALER,
+        &keys,
+        &polynomial,
+        &nonces,
+        &mut lines,
+    ));
+    let arguments = [DEALER, round.n, lines.len() as u32];
+    Case::of(8, &arguments, [bytes(&keys), lines].concat())
+}
+
+/// Y, the secret key and the nonce of an opened share.
+fn share(round: &Round, numbers: &mut Numbers) -> [u32; 3] {
+    let q = round.group.q;
+    let encrypted = round.group.power(G, numbers.below(q));
+    [encrypted, 1 + numbers.below(q - 1), numbers.below(q)]
+}
+
+fn write_share_case(round: &Round, numbers: &mut Numbers) -> Case {
+    let payload = buffered(&share(round, numbers), SIZE);
+    Case::of(9, &[DEALER, MEMBER, SIZE as u32], payload)
+}
+
+fn judge_share(round: &Round, numbers: &mut Numbers) -> Case {
+    let [encrypted, x, nonce] = share(round, numbers);
+    let mut record = vec![0; SIZE];
+    written(write_share(
+        LARGEST,
+        DEALER,
+        MEMBER,
+        encrypted,
+        x,
+        nonce,
+        &mut record,
+    ));
+    let figures = bytes(&[round.group.power(H, x), encrypted]);
+    let arguments = [DEALER, MEMBER, SIZE as u32];
+    Case::of(10, &arguments, [figures, record].concat())
+}
+
+fn written(answer: Answer<()>) {
+    answer.expect("proper figures");
+}
+
+/// A dealer's lines on a board of everything but his lines for some members. The board is the base unchanged.
+fn lines(
+    operation: u32,
+    is_missing: impl Fn(u32) -> bool,
+    numbers: &mut Numbers,
+) -> (Vec<u8>, Case) {
+    let members = any_members(LARGEST, numbers);
+    let mut posted = Posted::everything(&members, numbers);
+    posted.remove(|record| is_line(record) && record[1] == DEALER && is_missing(record[2]));
+    let board = posted.board();
+    let size = board.len() as u32;
+    let load = record::bytes([[14, 0, 0, 0, 0, 0, 0, size]]);
+    let case = Case::of(operation, &[DEALER, size], Vec::new());
+    ([load, board].concat(), case)
+}
+
+#[cfg(test)]
+mod tests {
+    use super::*;
+    use crate::replay::replay;
+
+    const NAMES: [&str; 13] = [
+        "power",
+        "degree",
+        "opening",
+        "recovery-t",
+        "recovery-n",
+        "equality",
+        "write_dealing",
+        "judge_dealing",
+        "write_share",
+        "judge_share",
+        "lines_check",
+        "lines",
+        "line",
+    ];
+
+    /// The lines that the cases of a file are answered by, without that of a base.
+    fn answers(file: &[u8]) -> Vec<String> {
+        let mut out = Vec::new();
+        replay(file, &mut out).unwrap();
+        let text = String::from_utf8(out).unwrap();
+        let lines = text.lines().filter(|line| !line.starts_with("base "));
+        lines.map(str::to_string).collect()
+    }
+
+    /// The lines themselves have no number; they are none where their number is refused.
+    #[test]
+    fn the_cases_are_accepted_and_refused_by_1() {
+        for name in NAMES {
+            let [accepted, refused] = files(name, 2).unwrap().map(|(_, file)| answers(&file));
+            assert!(accepted.len() == 2 && refused.len() == 2);
+            for line in accepted {
+                assert!(!line.contains(" refused ") && !line.starts_with("lines 0 "));
+            }
+            for line in refused {
+                assert!(line.contains(" refused 1") || line.starts_with("lines 0 "));
+            }
+        }
+    }
+}
