@@ -3,7 +3,7 @@
 use crate::answer::{require, Answer};
 use crate::dealing::judge_dealing;
 use crate::group::H;
-use crate::record::{self, has_form, KEY, LINE, OPENING, SHARE, SIZE};
+use crate::record::{self, has_form, Record, KEY, LINE, OPENING, SHARE, SIZE};
 use crate::round::{Figures, Round};
 use crate::share::judge_share;
 use crate::sharing::{at_zero, opening};
@@ -48,15 +48,15 @@ fn place(bytes: &[u8]) -> [u32; 3] {
 }
 
 /// Whether the record is one of the table, for n members.
-fn is_of_table(n: u32, bytes: &[u8]) -> bool {
+fn is_of_table(n: u32, record: &Record) -> bool {
     let is_member = |number| (1..=n).contains(&number);
-    let [kind, dealer, member] = place(bytes);
+    let [kind, dealer, member, ..] = *record;
     let in_range = match kind {
         KEY => dealer == 0 && is_member(member),
         OPENING => is_member(dealer) && member == 0,
         _ => is_member(dealer) && is_member(member),
     };
-    in_range && has_form(&record::read(bytes))
+    in_range && has_form(record)
 }
 
 /// 3 not whole records or too many; record by record 4 none of the table and then 5 not above the one before.
@@ -65,10 +65,12 @@ fn check_form(n: u32, bytes: &[u8]) -> Answer<()> {
     require(bytes.len() / SIZE <= MOST, 3)?;
     // Every record of the table is above this.
     let mut before = [0; 3];
-    for record in bytes.chunks_exact(SIZE) {
-        require(is_of_table(n, record), 4)?;
-        require(place(record) > before, 5)?;
-        before = place(record);
+    for record in bytes.chunks_exact(SIZE).map(record::read) {
+        require(is_of_table(n, &record), 4)?;
+        let [kind, dealer, member, ..] = record;
+        let place = [kind, dealer, member];
+        require(place > before, 5)?;
+        before = place;
     }
     Ok(())
 }
@@ -219,7 +221,6 @@ mod tests {
     use super::*;
     use crate::modular::value_at;
     use crate::posting::{opening_record, Members};
-    use crate::record::Record;
     use crate::round::FOUR;
 
     const FIGURES: Figures = Figures { number: 3, ..FOUR };

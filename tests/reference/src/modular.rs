@@ -1,13 +1,12 @@
 //! Arithmetic modulo a number: modulo p for elements, modulo q for exponents.
 
-/// The sum of two residues.
-pub fn sum(a: u32, b: u32, modulus: u32) -> u32 {
-    ((u64::from(a) + u64::from(b)) % u64::from(modulus)) as u32
-}
-
 /// The difference of two residues, from 0 to the modulus - 1.
 pub fn difference(a: u32, b: u32, modulus: u32) -> u32 {
-    ((u64::from(a) + u64::from(modulus) - u64::from(b)) % u64::from(modulus)) as u32
+    if a < b {
+        a + (modulus - b)
+    } else {
+        a - b
+    }
 }
 
 pub fn product(a: u32, b: u32, modulus: u32) -> u32 {
@@ -43,11 +42,12 @@ pub fn inverse(a: u32, modulus: u32) -> u32 {
 
 /// The value at x of the polynomial with these coefficients, the constant first.
 pub fn value_at(coefficients: &[u32], x: u32, modulus: u32) -> u32 {
+    let (x, modulus) = (u64::from(x), u64::from(modulus));
     let mut value = 0;
     for &coefficient in coefficients.iter().rev() {
-        value = sum(product(value, x, modulus), coefficient, modulus);
+        value = (value * x + u64::from(coefficient)) % modulus;
     }
-    value
+    value as u32
 }
 
 #[cfg(test)]
@@ -69,8 +69,7 @@ mod tests {
     }
 
     #[test]
-    fn sums_and_products_of_large_figures() {
-        assert_eq!(sum(P - 1, P - 1, P), P - 2);
+    fn products_of_large_figures() {
         assert_eq!(product(P - 1, P - 1, P), 1);
         assert_eq!(power(P - 1, Q, P), P - 1);
     }
