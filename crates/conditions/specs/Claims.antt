@@ -1,0 +1,69 @@
+-- Why the conditions of the sentence on two boards stand: there are boards that meet them all, and without either of the two that no
+-- judge can see, that polynomials carry the dealings and that accepted shares are true, two boards may end in two draws.
+use mathlib.Core.Path.{_≡_}
+use mathlib.Core.Bool.{true}
+use mathlib.Core.List.{List, [], _∷_}
+use mathlib.Core.Logic.{_⊎_}
+use Prim.Native.Nat.{ℕ, _<_, _≤_}
+use lib.Dec.{eqb}
+use lib.ListN.{length}
+use Rattle.words.specs.Choice.{pick}
+use Rattle.words.specs.Checks.{value, Met}
+use Rattle.group.specs.Power.{pow}
+use Rattle.sharing.specs.Round.{groupIn}
+use Rattle.sharing.specs.Carried.{Carries}
+use Rattle.sharing.specs.Figures.{small}
+use Rattle.posted.specs.Records.{recordAt}
+use Rattle.dealing.specs.Dealing.{vIn}
+use Rattle.board.specs.Search.{recordsIn}
+use Rattle.board.specs.Board.{boardChecks, linesOf}
+use Rattle.verdicts.specs.Verdict.{judges, isAccepted, commitmentsOf, isShareBy, sharesBy}
+use Rattle.verdicts.specs.Draw.{drawOn}
+use Rattle.demand3.specs.Claims.{RightlyOpened, powerOfH, acceptedDealers, AllRecoverable, SameDealings}
+use Rattle.conditions.specs.Boards.{openedBoard, silentBoard, forgedBoard, lowBoard, highBoard}
+
+-- the polynomials 3 + 5 times the member number for dealer 1, and 6 + 4 times it for the others
+abbrev pub polynomialOf : ℕ → List ℕ
+polynomialOf d = pick (eqb d 1) (3 ∷ 5 ∷ []) (6 ∷ 4 ∷ [])
+
+-- the draw value of a board
+abbrev pub DrawIs : List ℕ → ℕ → Type 0
+DrawIs b v = drawOn judges small b ≡ value (record { 0 = v })
+
+-- ---- the conditions are met: where the first dealer has opened and where he is silent, the draw is 2
+pub record ConditionsMet : Type 0 where
+  pub opened : AllRecoverable judges small openedBoard polynomialOf
+  pub silent : AllRecoverable judges small silentBoard polynomialOf
+  pub same : SameDealings judges small openedBoard silentBoard
+  pub count : 2 ≤ length (acceptedDealers judges small openedBoard)
+  pub draws : DrawIs openedBoard 2 × DrawIs silentBoard 2
+
+-- ---- all other conditions, on one board: verdicts are reached, t or more dealings are accepted, and each is rightly opened or has t
+-- or more accepted shares
+pub record Judged (b : List ℕ) : Type 0 where
+  pub reached : Met (boardChecks small b)
+  pub count : 2 ≤ length (acceptedDealers judges small b)
+  pub enough : (d : ℕ) → 1 ≤ d → d ≤ 4 → isAccepted judges small b d ≡ true → RightlyOpened small b d ⊎ (2 ≤ length (sharesBy judges small b d))
+
+-- two such boards with the same accepted dealings
+abbrev pub Compared : List ℕ → List ℕ → Type 0
+Compared b c = Judged b × Judged c × SameDealings judges small b c
+
+-- every accepted dealing is carried by a polynomial of degree below t
+abbrev pub AllCarried : List ℕ → Type 0
+AllCarried b = (d : ℕ) → 1 ≤ d → d ≤ 4 → isAccepted judges small b d ≡ true → (cs : List ℕ) × Carries small cs (commitmentsOf small b d)
+
+-- every accepted share is true to its line: it is h to the exponent of the line's commitment
+abbrev pub AllTrue : List ℕ → Type 0
+AllTrue b = (d i : ℕ) → i < recordsIn b → isShareBy judges small b d i ≡ true
+    → (e : ℕ) × (vIn (linesOf b d) (recordAt b i .w2) ≡ pow (groupIn small .p) (groupIn small .g .0) e) × (recordAt b i .w3 ≡ powerOfH small e)
+
+-- ---- that polynomials carry the dealings cannot be dropped: none carries that of dealer 1, all shares are true, and the draws are 2 and 9
+abbrev pub CarriedNeeded : Type 0
+CarriedNeeded =
+    ((cs : List ℕ) → Carries small cs (commitmentsOf small lowBoard 1) → ⊥)
+    × Compared lowBoard highBoard × AllTrue lowBoard × AllTrue highBoard × DrawIs lowBoard 2 × DrawIs highBoard 9
+
+-- ---- that accepted shares are true cannot be dropped: all dealings are carried, and the draws are 2 and 9
+abbrev pub TrueNeeded : Type 0
+TrueNeeded = Compared silentBoard forgedBoard × AllCarried silentBoard × AllCarried forgedBoard × DrawIs silentBoard 2 × DrawIs forgedBoard 9
