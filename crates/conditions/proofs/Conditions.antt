@@ -34,7 +34,7 @@ use Rattle.verdicts.specs.declared.Verdict.the-variants.{None, Accepted}
 use Rattle.demand3.specs.Claims.{RightlyOpened, powerOfH, acceptedDealers, VerdictRule, Recoverable, AllRecoverable, SameDealings}
 use Rattle.demand3.proofs.Sources.{share-true}
 use Rattle.demand3.proofs.VerdictCases.{verdict-rules}
-use Rattle.conditions.specs.Boards.{lowBoard, highBoard}
+use Rattle.conditions.specs.Boards.{uncarriedLow, uncarriedHigh}
 use Rattle.conditions.specs.Claims.{polynomialOf, ConditionsMet, Judged, AllCarried, AllTrue, CarriedNeeded, TrueNeeded}
 use Rattle.conditions.proofs.Known.{Known, everyShare, isTrueShare, isTrueToLine, Commits, all-known}
 
@@ -165,7 +165,7 @@ conditions-met =
       draws = (draw (A .opened-known), draw (A .silent-known));
     }
 
-uncarried : (cs : List ℕ) → Carries small cs (commitmentsOf small lowBoard 1) → ⊥
+uncarried : (cs : List ℕ) → Carries small cs (commitmentsOf small uncarriedLow 1) → ⊥
 unfolding groupOf
 uncarried cs C =
     refused-uncarried (9 ∷ 16 ∷ 4 ∷ 18 ∷ []) (1 ∷ 0 ∷ []) (record { size = refl; low = (omega arith, (omega arith, tt)) }) (all-known .not-passed) cs
@@ -177,8 +177,8 @@ carried-needed =
     let A = all-known in (
       uncarried,
       (judged (A .low-known) tt tt, judged (A .high-known) tt tt, same (A .low-known) (A .high-known) (A .low-commits) (A .high-commits)),
-      true-to-lines lowBoard (A .low-true),
-      true-to-lines highBoard (A .high-true),
+      true-to-lines uncarriedLow (A .low-true),
+      true-to-lines uncarriedHigh (A .high-true),
       draw (A .low-known),
       draw (A .high-known),
     )

@@ -30,7 +30,7 @@ use Rattle.verdicts.specs.declared.Secret.{Secret}
 use Rattle.verdicts.specs.declared.Secret.the-variants.{Opened, Recovered, Stuck}
 use Rattle.verdicts.specs.declared.Verdict.the-variants.{None}
 use Rattle.demand3.specs.Claims.{powerOfH, recoveredFrom}
-use Rattle.conditions.specs.Boards.{openedBoard, silentBoard, forgedBoard, lowBoard, highBoard}
+use Rattle.conditions.specs.Boards.{openedBoard, silentBoard, forgedBoard, uncarriedLow, uncarriedHigh}
 use Rattle.conditions.specs.Claims.{polynomialOf}
 use Rattle.conditions.proofs.Answers.{answers}
 
@@ -86,17 +86,17 @@ pub record AllKnown : Type 0 where
   pub opened-known : Known openedBoard (opened 16) (opened 3)
   pub silent-known : Known silentBoard (recoveredAs 16) (opened 3)
   pub forged-known : Known forgedBoard (recoveredAs 3) (opened 3)
-  pub low-known : Known lowBoard (recoveredAs 16) (opened 3)
-  pub high-known : Known highBoard (recoveredAs 3) (opened 3)
+  pub low-known : Known uncarriedLow (recoveredAs 16) (opened 3)
+  pub high-known : Known uncarriedHigh (recoveredAs 3) (opened 3)
   pub opened-commits : Commits openedBoard (9 ∷ 16 ∷ 8 ∷ 4 ∷ [])
   pub silent-commits : Commits silentBoard (9 ∷ 16 ∷ 8 ∷ 4 ∷ [])
   pub forged-commits : Commits forgedBoard (9 ∷ 16 ∷ 8 ∷ 4 ∷ [])
-  pub low-commits : Commits lowBoard (9 ∷ 16 ∷ 4 ∷ 18 ∷ [])
-  pub high-commits : Commits highBoard (9 ∷ 16 ∷ 4 ∷ 18 ∷ [])
+  pub low-commits : Commits uncarriedLow (9 ∷ 16 ∷ 4 ∷ 18 ∷ [])
+  pub high-commits : Commits uncarriedHigh (9 ∷ 16 ∷ 4 ∷ 18 ∷ [])
   pub opened-true : everyShare openedBoard (isTrueShare openedBoard) ≡ true
   pub silent-true : everyShare silentBoard (isTrueShare silentBoard) ≡ true
-  pub low-true : everyShare lowBoard (isTrueToLine lowBoard) ≡ true
-  pub high-true : everyShare highBoard (isTrueToLine highBoard) ≡ true
+  pub low-true : everyShare uncarriedLow (isTrueToLine uncarriedLow) ≡ true
+  pub high-true : everyShare uncarriedHigh (isTrueToLine uncarriedHigh) ≡ true
   pub first-carried : Carries small (polynomialOf 1) (9 ∷ 16 ∷ 8 ∷ 4 ∷ [])
   pub not-passed : degreeOutcome small (9 ∷ 16 ∷ 4 ∷ 18 ∷ []) (1 ∷ 0 ∷ []) ≡ refused 9
   pub second-carried : Carries small (polynomialOf 2) (6 ∷ 18 ∷ 8 ∷ 1 ∷ [])
@@ -111,8 +111,8 @@ all-known =
       opened-known = known openedBoard refl first second refl refl refl refl;
       silent-known = known silentBoard refl first second (λ j. fromRecords silentBoard (lastTwo (answers .share-1 j) (answers .share-2 j))) refl refl refl;
       forged-known = known forgedBoard refl first second (λ j. fromRecords forgedBoard (lastTwo (answers .forged j) (answers .share-2 j))) refl refl refl;
-      low-known = known lowBoard refl uncarried second (λ j. fromRecords lowBoard (lastTwo (answers .share-1 j) (answers .share-2 j))) refl refl refl;
-      high-known = known highBoard refl uncarried second (λ j. fromRecords highBoard (lastTwo (answers .share-1 j) (answers .share-3 j))) refl refl refl;
+      low-known = known uncarriedLow refl uncarried second (λ j. fromRecords uncarriedLow (lastTwo (answers .share-1 j) (answers .share-2 j))) refl refl refl;
+      high-known = known uncarriedHigh refl uncarried second (λ j. fromRecords uncarriedHigh (lastTwo (answers .share-1 j) (answers .share-3 j))) refl refl refl;
       opened-commits = (refl, refl);
       silent-commits = (refl, refl);
       forged-commits = (refl, refl);

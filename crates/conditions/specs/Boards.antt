@@ -1,4 +1,4 @@
--- Boards of group 1 with four members and threshold 2, record by record: those of tests/forged. The secret keys are 5, 2, 7, 3.
+-- Boards of group 1 with four members and threshold 2, record by record. Their bytes are the files of the same names in tests/forged.
 use mathlib.Core.List.{List, _++_}
 use Prim.Native.Nat.{ℕ}
 use Rattle.words.specs.Bytes.{recordBytes}
@@ -50,9 +50,9 @@ abbrev pub forgedBoard : List ℕ
 forgedBoard = boardOf firstLines (opening 2 6 ++ (share 1 1 6 2 4 ++ share 1 2 12 5 6))
 
 -- no polynomial carries the first dealing, and members 1 and 2 have opened their shares of it
-abbrev pub lowBoard : List ℕ
-lowBoard = boardOf uncarriedLines (opening 2 6 ++ (share 1 1 13 9 4 ++ share 1 2 12 5 6))
+abbrev pub uncarriedLow : List ℕ
+uncarriedLow = boardOf uncarriedLines (opening 2 6 ++ (share 1 1 13 9 4 ++ share 1 2 12 5 6))
 
 -- the same, but members 1 and 3 have opened theirs
-abbrev pub highBoard : List ℕ
-highBoard = boardOf uncarriedLines (opening 2 6 ++ (share 1 1 13 9 4 ++ share 1 3 9 3 6))
+abbrev pub uncarriedHigh : List ℕ
+uncarriedHigh = boardOf uncarriedLines (opening 2 6 ++ (share 1 1 13 9 4 ++ share 1 3 9 3 6))

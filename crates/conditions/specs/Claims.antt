@@ -20,7 +20,7 @@ use Rattle.board.specs.Board.{boardChecks, linesOf}
 use Rattle.verdicts.specs.Verdict.{judges, isAccepted, commitmentsOf, isShareBy, sharesBy}
 use Rattle.verdicts.specs.Draw.{drawOn}
 use Rattle.demand3.specs.Claims.{RightlyOpened, powerOfH, acceptedDealers, AllRecoverable, SameDealings}
-use Rattle.conditions.specs.Boards.{openedBoard, silentBoard, forgedBoard, lowBoard, highBoard}
+use Rattle.conditions.specs.Boards.{openedBoard, silentBoard, forgedBoard, uncarriedLow, uncarriedHigh}
 
 -- the polynomials 3 + 5 times the member number for dealer 1, and 6 + 4 times it for the others
 abbrev pub polynomialOf : ℕ → List ℕ
@@ -61,8 +61,8 @@ AllTrue b = (d i : ℕ) → i < recordsIn b → isShareBy judges small b d i ≡
 -- ---- that polynomials carry the dealings cannot be dropped: none carries that of dealer 1, all shares are true, and the draws are 2 and 9
 abbrev pub CarriedNeeded : Type 0
 CarriedNeeded =
-    ((cs : List ℕ) → Carries small cs (commitmentsOf small lowBoard 1) → ⊥)
-    × Compared lowBoard highBoard × AllTrue lowBoard × AllTrue highBoard × DrawIs lowBoard 2 × DrawIs highBoard 9
+    ((cs : List ℕ) → Carries small cs (commitmentsOf small uncarriedLow 1) → ⊥)
+    × Compared uncarriedLow uncarriedHigh × AllTrue uncarriedLow × AllTrue uncarriedHigh × DrawIs uncarriedLow 2 × DrawIs uncarriedHigh 9
 
 -- ---- that accepted shares are true cannot be dropped: all dealings are carried, and the draws are 2 and 9
 abbrev pub TrueNeeded : Type 0

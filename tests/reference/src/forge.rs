@@ -6,9 +6,10 @@ use crate::draw::set_record;
 use crate::group::G;
 use crate::modular::value_at;
 use crate::posting::{opening_record, Members};
-use crate::record::{self, Record, SHARE};
+use crate::record::{self, Record, KEY, LINE, OPENING, SHARE, SIZE};
 use crate::round::FOUR;
 use crate::share::judge_share;
+use std::collections::BTreeSet;
 
 /// The secret keys, the polynomials of the first two dealers and the nonces of the first, for both pairs of boards.
 const SECRET_KEYS: [u32; 4] = [5, 2, 7, 3];
@@ -25,12 +26,18 @@ fn values(polynomial: &[u32]) -> [u32; 4] {
     [1, 2, 3, 4].map(|i| value_at(polynomial, i, 11))
 }
 
-/// The board of the keys, the first dealer's lines, the second dealer's dealing with its opening, and shares of the
-/// first.
-fn board(members: &Members, first: &[Record], shares: &[Record]) -> Vec<u8> {
+/// The board of the keys, the first dealer's lines, the second dealer's lines with his opening, the opening of the first
+/// where he has one, and shares of his dealing.
+fn board(
+    members: &Members,
+    first: &[Record],
+    opening: Option<Record>,
+    shares: &[Record],
+) -> Vec<u8> {
     let mut records = members.key_records();
     records.extend(first);
     records.extend(members.lines(2, &values(&SECOND), &[9, 10, 1, 2]));
+    records.extend(opening);
     records.push(opening_record(2, SECOND[0]));
     records.extend(shares);
     record::bytes(records)
@@ -59,7 +66,7 @@ fn uncarried() -> [Vec<u8>; 2] {
     let lines = uncarried_lines(&members);
     [1, 2].map(|other| {
         let shares = [0, other].map(|k| members.share(&lines[k], 5));
-        board(&members, &lines, &shares)
+        board(&members, &lines, None, &shares)
     })
 }
 
@@ -80,32 +87,57 @@ fn forged_share(members: &Members, line: &Record) -> Record {
     unreachable!("about one in 11 is accepted")
 }
 
-/// An honest board on which members 1 and 2 open their shares of dealer 1's dealing, and the same with member 1's share
-/// forged.
-fn share() -> [Vec<u8>; 2] {
+/// Three boards with dealer 1's polynomial: he has opened; he is silent, and members 1 and 2 open their shares of his
+/// dealing; the same with member 1's share forged.
+fn carried() -> [Vec<u8>; 3] {
     let members = members();
     let lines = members.lines(1, &values(&FIRST), &NONCES);
-    let second = members.share(&lines[1], 5);
-    let firsts = [
-        members.share(&lines[0], 5),
-        forged_share(&members, &lines[0]),
-    ];
-    firsts.map(|first| board(&members, &lines, &[first, second]))
+    let [first, second] = [0, 1].map(|k| members.share(&lines[k], 5));
+    let forged = forged_share(&members, &lines[0]);
+    let opening = opening_record(1, FIRST[0]);
+    [
+        board(&members, &lines, Some(opening), &[]),
+        board(&members, &lines, None, &[first, second]),
+        board(&members, &lines, None, &[forged, second]),
+    ]
 }
 
-/// The names and bytes of the files: the sets, and the boards.
+/// The names and bytes of the files: the set, and the boards.
 pub fn files() -> [(&'static str, Vec<u8>); 6] {
-    let set = record::bytes([set_record(FOUR)]);
-    let [uncarried_1, uncarried_2] = uncarried();
-    let [honest, forged] = share();
+    let [opened, silent, forged] = carried();
+    let [low, high] = uncarried();
     [
-        ("uncarried.set", set.clone()),
-        ("uncarried-1.bin", uncarried_1),
-        ("uncarried-2.bin", uncarried_2),
-        ("share.set", set),
-        ("share-honest.bin", honest),
-        ("share-forged.bin", forged),
+        ("round.set", record::bytes([set_record(FOUR)])),
+        ("opened.bin", opened),
+        ("silent.bin", silent),
+        ("forged.bin", forged),
+        ("uncarried-low.bin", low),
+        ("uncarried-high.bin", high),
     ]
+}
+
+/// Every record of the boards, as the product's definitions write it: the kind, and the figures that it names.
+pub fn records() -> String {
+    let mut lines = BTreeSet::new();
+    for (_, bytes) in &files()[1..] {
+        for record in bytes.chunks_exact(SIZE).map(record::read) {
+            let figures = match record[0] {
+                KEY => format!("key {} {}", record[2], record[3]),
+                OPENING => format!("opening {} {}", record[1], record[3]),
+                kind => {
+                    let (name, end) = if kind == LINE {
+                        ("line", 7)
+                    } else {
+                        ("share", 6)
+                    };
+                    let figures = record[1..end].iter().map(u32::to_string);
+                    format!("{name} {}", figures.collect::<Vec<_>>().join(" "))
+                }
+            };
+            lines.insert(figures + "\n");
+        }
+    }
+    lines.into_iter().collect()
 }
 
 #[cfg(test)]
@@ -113,7 +145,6 @@ mod tests {
     use super::*;
     use crate::board::{judge_board, Secret, Verdict};
     use crate::group::H;
-    use crate::record::LINE;
 
     /// The secrets of dealers 1 and 2, and the draw value.
     fn secrets(board: &[u8]) -> ([Secret; 2], u32) {
@@ -181,22 +212,21 @@ mod tests {
     }
 
     #[test]
-    fn a_forged_share_changes_the_draw_value() {
-        let [honest, forged] = share();
-        let changed = honest
+    fn silence_leaves_the_draw_value_and_a_forged_share_changes_it() {
+        let [opened, silent, forged] = carried();
+        let changed = silent
             .chunks(32)
             .zip(forged.chunks(32))
             .filter(|(a, b)| a != b);
         assert_eq!(changed.count(), 1);
         let group = members().round.group;
-        let (secrets_of_honest, draw) = secrets(&honest);
-        let opened = Secret::Opened(group.power(H, SECOND[0]));
-        assert_eq!(
-            secrets_of_honest,
-            [Secret::Recovered(group.power(H, FIRST[0])), opened]
-        );
+        let [first, second] = [FIRST, SECOND].map(|polynomial| group.power(H, polynomial[0]));
+        let draw = group.product(first, second);
+        let second = Secret::Opened(second);
+        assert_eq!(secrets(&opened), ([Secret::Opened(first), second], draw));
+        assert_eq!(secrets(&silent), ([Secret::Recovered(first), second], draw));
         let (secrets_of_forged, other) = secrets(&forged);
-        assert_eq!(secrets_of_forged[1], opened);
+        assert_eq!(secrets_of_forged[1], second);
         assert_ne!(draw, other);
     }
 }

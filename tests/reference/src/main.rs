@@ -64,7 +64,10 @@ fn run(words: &[String]) -> Done {
     let words: Vec<&str> = words.iter().map(String::as_str).collect();
     match words[..] {
         ["vectors", folder] => write_vectors(Path::new(folder))?,
-        ["forge", folder] => write_files(folder, &forge::files())?,
+        ["forge", folder] => {
+            write_files(folder, &forge::files())?;
+            write_files(folder, &[("records", forge::records().into_bytes())])?;
+        }
         ["example", folder] => write_files(folder, &draw::example())?,
         ["draw", folder] => print!("{}", draw::text_of(Path::new(folder))?),
         ["board", number, n, t, source, folder] => {
