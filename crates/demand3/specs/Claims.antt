@@ -5,7 +5,7 @@ use mathlib.Core.List.{List, [], _∷_}
 use mathlib.Core.Logic.{_⊎_, _↔_}
 use Prim.Native.Nat.{ℕ, _<_, _≤_}
 use lib.ListN.{length, take}
-use Rattle.words.specs.Lists.{All, map}
+use Rattle.words.specs.Lists.{map}
 use Rattle.words.specs.Checks.{value, refused, Met, FirstUnmet}
 use Rattle.field.specs.Residue.{mul}
 use Rattle.field.specs.Polynomial.{valueAt}

@@ -1,12 +1,12 @@
 -- What is claimed of primes, residues and polynomials. Every law on polynomials is of numbers below any prime q.
 use mathlib.Core.Path.{_≡_}
-use mathlib.Core.List.{List, [], _∷_}
+use mathlib.Core.List.{List}
 use mathlib.Core.Logic.{_↔_, _⊎_}
-use Prim.Native.Nat.{ℕ, zero, suc, _+_, _%_, _<_, _≤_, _*_}
+use Prim.Native.Nat.{ℕ, suc, _+_, _%_, _<_, _≤_, _*_}
 use lib.ListN.{length, getD}
 use lib.Dec.{T}
 use Rattle.words.specs.Lists.{All, Distinct, Below, map, upFrom}
-use Rattle.field.specs.Residue.{add, mul, neg, sub, inv, residueOps}
+use Rattle.field.specs.Residue.{mul, inv, residueOps}
 use Rattle.field.specs.Prime.{Prime, trialDivision}
 use Rattle.field.specs.Algebra.{Ops, Field, Hom}
 use Rattle.field.specs.Polynomial.{dot, divided, scaled, products, atZero, valueAt}

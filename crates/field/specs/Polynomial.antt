@@ -1,7 +1,6 @@
 -- Polynomials as lists of coefficients, the constant first; divided differences; Lagrange's formula at zero.
 use mathlib.Core.List.{List, [], _∷_}
 use Prim.Native.Nat.{ℕ, zero, suc}
-use Rattle.words.specs.Lists.{map}
 use Rattle.field.specs.Algebra.{Ops}
 use Rattle.field.specs.Residue.{residueOps}
 

@@ -1,5 +1,4 @@
 -- Arithmetic on residues modulo m, as plain numbers: what the functions of this crate compute.
-use mathlib.Core.Bool.{Bool, true, false}
 use Prim.Native.Nat.{ℕ, zero, suc, _+_, _-_, _*_, _/_, _%_}
 use lib.Dec.{leb}
 use Rattle.words.specs.Choice.{pick}

@@ -1,5 +1,4 @@
 -- The weights of the degree check and Lagrange's coefficients, modulo q, and products of powers modulo p.
-use mathlib.Core.Bool.{Bool, true, false}
 use mathlib.Core.List.{List, [], _∷_}
 use Prim.Native.Nat.{ℕ}
 use lib.Dec.{eqb}

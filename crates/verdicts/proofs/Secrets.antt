@@ -1,16 +1,14 @@
 -- Recovery from the members and shares found: their members are below q, and there are t of them exactly if t or more shares are accepted.
-use mathlib.Core.Path.{_≡_, refl, sym, ap, _∙_, subst}
+use mathlib.Core.Path.{_≡_, sym, ap, _∙_, subst}
 use mathlib.Core.Bool.{Bool, true, false, _&&_}
 use mathlib.Core.List.{List, [], _∷_}
-use Prim.Native.Nat.{ℕ, zero, suc, _-_, _*_, _<_, _≤_}
+use Prim.Native.Nat.{ℕ, zero, suc, _-_, _<_, _≤_}
 use native.Mathlib.Omega.{arith}
 use native.Mathlib.Nat.{sub-zero}
 use borrow.Author.Tests.{lt-ltb, le-ltb, ltb-true}
 use lib.ListN.{length, take, length-take}
-use lib.Seq.{length-take-le}
 use lib.Dec.{ltb}
-use Rattle.words.specs.Choice.{pick}
-use Rattle.words.specs.Lists.{All, Below, map, upFrom}
+use Rattle.words.specs.Lists.{Below, map, upFrom}
 use Rattle.words.proofs.Lists.{All-to, All-take, map-all, map-length}
 use Rattle.words.proofs.Tests.{and-true, pick-true, pick-false}
 use Rattle.group.specs.Power.{pow}
@@ -26,7 +24,6 @@ use Rattle.board.specs.Board.{linesOf, openingRecord}
 use Rattle.verdicts.specs.Verdict.{Judges, Dealt, commitmentsOf, isShareBy, sharesBy, fromShares, isOpened, secretBy}
 use Rattle.verdicts.specs.Lowest.{LowestBy}
 use Rattle.verdicts.specs.declared.Lowest.{Lowest}
-use Rattle.verdicts.specs.declared.Secret.{Secret}
 use Rattle.verdicts.specs.declared.Secret.the-variants.{Opened, Recovered, Stuck}
 use Rattle.board.proofs.Searches.{filter-up}
 use Rattle.board.proofs.Order.{reached, shapes}

@@ -18,9 +18,8 @@ use Rattle.board.specs.Search.{recordsIn}
 use Rattle.board.specs.Board.{boardChecks, keysIn, lineCount, linesOf}
 use Rattle.board.proofs.Order.{reached}
 use Rattle.board.proofs.LineRun.{lines-exact}
-use Rattle.verdicts.specs.Verdict.{judges, Dealt, dealingAnswer, secretBy, verdictFrom, verdictOn}
+use Rattle.verdicts.specs.Verdict.{judges, Dealt, secretBy, verdictFrom, verdictOn}
 use Rattle.verdicts.specs.declared.Secret.{Secret}
-use Rattle.verdicts.specs.declared.Verdict.{Verdict}
 use Rattle.verdicts.specs.declared.Verdict.the-variants.{None, Refused, Accepted}
 
 module _ (R : Round) (b : List ℕ) (d : ℕ) (m : Met (boardChecks R b)) {lines : List ℕ} (e : lines ≡ linesOf b d) {k : ℕ} (c : k ≡ recordsIn lines) where

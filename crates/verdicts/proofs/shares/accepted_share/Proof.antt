@@ -6,7 +6,6 @@ use borrow.Author.Needs.{needs}
 use Rattle.words.specs.declared.Record.{Record}
 use Rattle.posted.specs.Records.{recordAt}
 use Rattle.board.specs.Search.{recordsIn}
-use Rattle.board.specs.Board.{keyRecord}
 use Rattle.verdicts.proofs.ShareAnswers.{few-records, share-member, key-inside, lines-length, answered, other-kind, other-dealer}
 use Rattle.verdicts.proofs.shares.accepted_share.Statement.{statement}
 use Rattle.verdicts.proofs.shares.accepted_share.Tie as tie

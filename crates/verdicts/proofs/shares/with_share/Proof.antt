@@ -1,6 +1,5 @@
 -- `with_share` meets its contract: the answer on the record tells whether it is an accepted share, and its value.
 use mathlib.Core.Path.{ap}
-use native.Mathlib.Omega.{arith}
 use borrow.Author.Needs.{needs}
 use Rattle.words.specs.declared.Record.{Record}
 use Rattle.verdicts.proofs.ShareAnswers.{with-none, with-one}

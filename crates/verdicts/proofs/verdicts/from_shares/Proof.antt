@@ -1,6 +1,6 @@
 -- `from_shares` meets its contract: fewer than t found is stuck, and t found are what recovery is given.
 use native.Mathlib.Omega.{arith}
-use mathlib.Core.Path.{_≡_, sym, subst}
+use mathlib.Core.Path.{subst}
 use borrow.Author.Needs.{needs}
 use Rattle.group.specs.Element.{Proper}
 use Rattle.verdicts.specs.Verdict.{judges}

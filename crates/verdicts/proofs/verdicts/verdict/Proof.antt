@@ -1,5 +1,4 @@
 -- `verdict` meets its contract: the number of his lines decides, and then the judge's answer on them.
-use mathlib.Core.Path.{_∙_}
 use borrow.Author.Needs.{needs}
 use Rattle.verdicts.proofs.VerdictAnswers.{no-lines, not-all-lines, all-lines, dealing-refused, dealing-accepted}
 use Rattle.verdicts.proofs.verdicts.verdict.Statement.{statement}
