@@ -24,9 +24,8 @@ pub fn put_line(out: &mut [u8], at: usize, word: &[u8], v: u32) -> usize
     requires { ⌜ Room at (now word ++ (figure v ++ newLine)) (now out) ⌝ }
     ensures { λ r. ⌜ Written at (now (word .entry) ++ (figure v ++ newLine)) (now (out .entry)) (now (out .exit)) r ⌝ }
 {
-    let a = put_bytes(out, at, word);
-    let b = put_figure(out, a, v);
-    put_bytes(out, b, b"\n")
+    let next = put_worded(out, at, word, v);
+    put_bytes(out, next, b"\n")
 }
 
 // Writes how a secret came, and its value, from `at` on. Internal: callers ensure room for it.
