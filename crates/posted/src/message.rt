@@ -61,24 +61,24 @@ fn put_four(m: &mut [u8], at: usize, a: u32, b: u32, c: u32, d: u32)
 }
 
 // The challenge of a dealing: over v, Y, a1 and a2 of every line, the Y in es.
-// Internal: callers ensure a proper round and its group, a dealer at most n, and n figures in each list.
+// Internal: callers ensure a proper round and its group, and a dealer at most n.
 pub fn dealing_challenge(
     gr: Group,
     rd: Round,
     d: u32,
-    vs: &[u32],
-    es: &[u32],
-    a1s: &[u32],
-    a2s: &[u32],
+    vs: &[u32; 31],
+    es: &[u32; 31],
+    a1s: &[u32; 31],
+    a2s: &[u32; 31],
 ) -> Exponent
-    requires { ⌜ (Met (roundChecks rd)) × (gr ≡ groupIn rd) × (d ≤ rd .n)
-        × (length (now vs) ≡ rd .n) × (length (now es) ≡ rd .n) × (length (now a1s) ≡ rd .n) × (length (now a2s) ≡ rd .n) ⌝ }
+    requires { ⌜ (Met (roundChecks rd)) × (gr ≡ groupIn rd) × (d ≤ rd .n) ⌝ }
     ensures { λ r. ⌜ r .0 ≡ challengeOf rd (dealingMessage rd d (entry (now (vs .entry))) (entry (now (es .entry))) (entry (now (a1s .entry))) (entry (now (a2s .entry)))) ⌝ }
 {
     let mut m = [0u8; 512];
     head(&mut m, 0x44, rd, d);
+    let n = rd.n as usize;
     let mut i = 0;
-    while i < vs.len() {
+    while i < n {
         put_four(&mut m, 5 + 16 * i, vs[i], es[i], a1s[i], a2s[i]);
         i += 1;
     }
@@ -111,17 +111,17 @@ pub fn share_challenge(
 }
 
 // The coefficient k of the judge's own check polynomial: over v and Y of every line, the Y in es.
-// Internal: callers ensure a proper round and its group, a dealer at most n, n figures in each list, and that k is a byte.
-fn coefficient(gr: Group, rd: Round, d: u32, vs: &[u32], es: &[u32], k: u32) -> Exponent
-    requires { ⌜ (Met (roundChecks rd)) × (gr ≡ groupIn rd) × (d ≤ rd .n)
-        × (length (now vs) ≡ rd .n) × (length (now es) ≡ rd .n) × (k < 256) ⌝ }
+// Internal: callers ensure a proper round and its group, a dealer at most n, and that k is a byte.
+fn coefficient(gr: Group, rd: Round, d: u32, vs: &[u32; 31], es: &[u32; 31], k: u32) -> Exponent
+    requires { ⌜ (Met (roundChecks rd)) × (gr ≡ groupIn rd) × (d ≤ rd .n) × (k < 256) ⌝ }
     ensures { λ r. ⌜ r .0 ≡ challengeOf rd (coefficientMessage rd d (entry (now (vs .entry))) (entry (now (es .entry))) k) ⌝ }
 {
     let mut m = [0u8; 256];
     head(&mut m, 0x50, rd, d);
     m[5] = k as u8;
+    let n = rd.n as usize;
     let mut i = 0;
-    while i < vs.len() {
+    while i < n {
         put_two(&mut m, 6 + 8 * i, vs[i], es[i]);
         i += 1;
     }
@@ -130,10 +130,9 @@ fn coefficient(gr: Group, rd: Round, d: u32, vs: &[u32], es: &[u32], k: u32) -> 
 }
 
 // The judge's own check polynomial: the first n - t places of an array.
-// Internal: callers ensure a proper round and its group, a dealer at most n, and n figures in each list.
-pub fn check_polynomial(gr: Group, rd: Round, d: u32, vs: &[u32], es: &[u32]) -> [u32; 31]
-    requires { ⌜ (Met (roundChecks rd)) × (gr ≡ groupIn rd) × (d ≤ rd .n)
-        × (length (now vs) ≡ rd .n) × (length (now es) ≡ rd .n) ⌝ }
+// Internal: callers ensure a proper round and its group, and a dealer at most n.
+pub fn check_polynomial(gr: Group, rd: Round, d: u32, vs: &[u32; 31], es: &[u32; 31]) -> [u32; 31]
+    requires { ⌜ (Met (roundChecks rd)) × (gr ≡ groupIn rd) × (d ≤ rd .n) ⌝ }
     ensures { λ r. ⌜ take (rd .n - rd .t) r ≡ checkPolynomial rd d (entry (now (vs .entry))) (entry (now (es .entry))) ⌝ }
 {
     let mut cs = [0u32; 31];

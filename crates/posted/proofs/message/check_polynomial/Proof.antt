@@ -24,10 +24,10 @@ abbrev μ-loop : tie.MeasureT-loop
 μ-loop gr rd d vs es cs₀ count k₀ cs k = count - k
 
 sub-count : tie.Need-sub-count Inv-loop μ-loop
-sub-count c = ready _ (c .before .before .before .pre .0) .enough
+sub-count c = ready _ (c .before .pre .0) .enough
 
 loop-holds : tie.Need-loop-holds Inv-loop μ-loop
-loop-holds c = (omega arith, omega (arith, ready _ (c .before .before .before .pre .0) .at-most), refl, refl)
+loop-holds c = (omega arith, omega (arith, ready _ (c .before .pre .0) .at-most), refl, refl)
 
 coefficient-requires : tie.Need-coefficient-requires Inv-loop μ-loop
 coefficient-requires c κs = search needs
@@ -50,7 +50,7 @@ loop-less c = search needs
 loop-again : tie.Need-loop-again Inv-loop μ-loop
 loop-again c =
     let l = c .before .before .loop in
-    let a = c .before .before .before .before .before .before .args in
+    let a = c .before .before .before .before .args in
     let f = coefficientOf (a .rd) (a .d) (entry (a .vs .now)) (entry (a .es .now)) in
     let e : l .k ≡ 0 + l .k = omega arith in
     (omega arith, l .inv .1, search needs, filled-next f 0 (l .k) _ (l .cs) (omega arith) (l .inv .3) (c .coefficient .ensures ∙ ap f e))
@@ -59,7 +59,7 @@ returns : tie.Need-returns Inv-loop μ-loop
 unfolding checkPolynomial
 returns c =
     let l = c .before .loop in
-    let a = c .before .before .before .before .before .args in
+    let a = c .before .before .before .args in
     let e : l .k ≡ a .rd .n - a .rd .t = omega arith in
     rw (← e) (l .inv .3)
 

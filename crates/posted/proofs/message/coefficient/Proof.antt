@@ -22,11 +22,11 @@ abbrev words : List ℕ → List ℕ → ℕ → List ℕ
 words vs es j = entry vs j ∷ entry es j ∷ []
 
 abbrev Inv-loop : tie.InvT-loop
-Inv-loop gr d vs es k m₀ i₀ m i =
-    (i ≤ length vs) × (length vs ≤ 31) × (length m ≡ 256) × (m ≡ putAt 6 (bytesOver (words vs es) (members i)) m₀)
+Inv-loop gr d vs es k m₀ n i₀ m i =
+    (i ≤ n) × (n ≤ 31) × (length m ≡ 256) × (m ≡ putAt 6 (bytesOver (words vs es) (members i)) m₀)
 
 abbrev μ-loop : tie.MeasureT-loop
-μ-loop gr d vs es k m₀ i₀ m i = length vs - i
+μ-loop gr d vs es k m₀ n i₀ m i = n - i
 
 slice-aggregate-head : tie.Need-slice-aggregate-head Inv-loop μ-loop
 slice-aggregate-head c = search needs
@@ -40,11 +40,15 @@ cast-m c = search needs
 array-write-m : tie.Need-array-write-m Inv-loop μ-loop
 array-write-m c = search needs
 
+cast-n : tie.Need-cast-n Inv-loop μ-loop
+cast-n c = search needs
+
 loop-holds : tie.Need-loop-holds Inv-loop μ-loop
 unfolding bytesOver
 loop-holds c =
-    let P = c .before .before .before .before .before .pre in
-    (omega arith, omega (arith, ready _ (P .0) .at-most), simp length-set (c .before .head .kept .0), sym (put-none 6 _))
+    let h = c .before .before in
+    let s = h .before .before in
+    (omega arith, ready _ (s .pre .0) .at-most, simp length-set (h .head .kept .0), sym (put-none 6 _))
 
 slice-aggregate-put-two : tie.Need-slice-aggregate-put-two Inv-loop μ-loop
 slice-aggregate-put-two c = search needs
@@ -58,14 +62,14 @@ add-put-two c = search needs
 mul-put-two-2 : tie.Need-mul-put-two-2 Inv-loop μ-loop
 mul-put-two-2 c = search needs
 
-shared-slice-read-put-two : tie.Need-shared-slice-read-put-two Inv-loop μ-loop
-shared-slice-read-put-two c = search needs
+element-copy-out-put-two : tie.Need-element-copy-out-put-two Inv-loop μ-loop
+element-copy-out-put-two c = search needs
 
 mul-put-two-3 : tie.Need-mul-put-two-3 Inv-loop μ-loop
 mul-put-two-3 c = search needs
 
-shared-slice-read-put-two-2 : tie.Need-shared-slice-read-put-two-2 Inv-loop μ-loop
-shared-slice-read-put-two-2 c = search needs
+element-copy-out-put-two-2 : tie.Need-element-copy-out-put-two-2 Inv-loop μ-loop
+element-copy-out-put-two-2 c = search needs
 
 put-two-requires : tie.Need-put-two-requires Inv-loop μ-loop
 put-two-requires c κs = search needs
@@ -81,8 +85,8 @@ unfolding entry
 loop-again c =
     let b = c .before .before .before .before .before .before in
     let l = b .loop in
-    let h = b .before .before in
-    let a = h .before .before .before .before .args in
+    let h = b .before .before .before in
+    let a = h .before .before .args in
     let f = words (a .vs .now) (a .es .now) in
     let e : l .i ≡ l .i + 1 - 1 = omega arith in (
       omega arith,
@@ -110,15 +114,15 @@ slice-aggregate-challenge c =
 challenge-requires : tie.Need-challenge-requires Inv-loop μ-loop
 challenge-requires c κs =
     let l = c .before .before .loop in
-    let s = c .before .before .before .before .before .before .before .before in
+    let s = c .before .before .before .before .before .before .before in
     (order-positive _ _ (s .pre .0) (s .pre .1), omega (arith, length-take-le (6 + 8 * l .i) (l .m) (omega arith)))
 
 returns : tie.Need-returns Inv-loop μ-loop
 unfolding challengeOf coefficientMessage
 returns c =
     let l = c .before .before .before .loop in
-    let h = c .before .before .before .before .before in
-    let s = h .before .before .before .before in
+    let h = c .before .before .before .before .before .before in
+    let s = h .before .before in
     let a = s .args in
     let f = words (a .vs .now) (a .es .now) in
     let e : l .i ≡ a .rd .n = omega arith in
@@ -138,14 +142,15 @@ coefficient-spec =
     head-requires
     cast-m
     array-write-m
+    cast-n
     loop-holds
     slice-aggregate-put-two
     mul-put-two
     add-put-two
     mul-put-two-2
-    shared-slice-read-put-two
+    element-copy-out-put-two
     mul-put-two-3
-    shared-slice-read-put-two-2
+    element-copy-out-put-two-2
     put-two-requires
     add-i
     loop-less

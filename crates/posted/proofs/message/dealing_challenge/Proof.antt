@@ -22,11 +22,11 @@ abbrev words : List ℕ → List ℕ → List ℕ → List ℕ → ℕ → List 
 words vs es a1s a2s j = entry vs j ∷ entry es j ∷ entry a1s j ∷ entry a2s j ∷ []
 
 abbrev Inv-loop : tie.InvT-loop
-Inv-loop gr d vs es a1s a2s m₀ i₀ m i =
-    (i ≤ length vs) × (length vs ≤ 31) × (length m ≡ 512) × (m ≡ putAt 5 (bytesOver (words vs es a1s a2s) (members i)) m₀)
+Inv-loop gr d vs es a1s a2s m₀ n i₀ m i =
+    (i ≤ n) × (n ≤ 31) × (length m ≡ 512) × (m ≡ putAt 5 (bytesOver (words vs es a1s a2s) (members i)) m₀)
 
 abbrev μ-loop : tie.MeasureT-loop
-μ-loop gr d vs es a1s a2s m₀ i₀ m i = length vs - i
+μ-loop gr d vs es a1s a2s m₀ n i₀ m i = n - i
 
 slice-aggregate-head : tie.Need-slice-aggregate-head Inv-loop μ-loop
 slice-aggregate-head c = search needs
@@ -34,11 +34,15 @@ slice-aggregate-head c = search needs
 head-requires : tie.Need-head-requires Inv-loop μ-loop
 head-requires c κs = search needs
 
+cast-n : tie.Need-cast-n Inv-loop μ-loop
+cast-n c = search needs
+
 loop-holds : tie.Need-loop-holds Inv-loop μ-loop
 unfolding bytesOver
 loop-holds c =
-    let P = c .before .before .before .before .before .before .before .pre in
-    (omega arith, omega (arith, ready _ (P .0) .at-most), c .before .head .kept .0 ∙ refl, sym (put-none 5 _))
+    let h = c .before .before in
+    let s = h .before .before in
+    (omega arith, ready _ (s .pre .0) .at-most, h .head .kept .0 ∙ refl, sym (put-none 5 _))
 
 slice-aggregate-put-four : tie.Need-slice-aggregate-put-four Inv-loop μ-loop
 slice-aggregate-put-four c = search needs
@@ -52,26 +56,26 @@ add-put-four c = search needs
 mul-put-four-2 : tie.Need-mul-put-four-2 Inv-loop μ-loop
 mul-put-four-2 c = search needs
 
-shared-slice-read-put-four : tie.Need-shared-slice-read-put-four Inv-loop μ-loop
-shared-slice-read-put-four c = search needs
+element-copy-out-put-four : tie.Need-element-copy-out-put-four Inv-loop μ-loop
+element-copy-out-put-four c = search needs
 
 mul-put-four-3 : tie.Need-mul-put-four-3 Inv-loop μ-loop
 mul-put-four-3 c = search needs
 
-shared-slice-read-put-four-2 : tie.Need-shared-slice-read-put-four-2 Inv-loop μ-loop
-shared-slice-read-put-four-2 c = search needs
+element-copy-out-put-four-2 : tie.Need-element-copy-out-put-four-2 Inv-loop μ-loop
+element-copy-out-put-four-2 c = search needs
 
 mul-put-four-4 : tie.Need-mul-put-four-4 Inv-loop μ-loop
 mul-put-four-4 c = search needs
 
-shared-slice-read-put-four-3 : tie.Need-shared-slice-read-put-four-3 Inv-loop μ-loop
-shared-slice-read-put-four-3 c = search needs
+element-copy-out-put-four-3 : tie.Need-element-copy-out-put-four-3 Inv-loop μ-loop
+element-copy-out-put-four-3 c = search needs
 
 mul-put-four-5 : tie.Need-mul-put-four-5 Inv-loop μ-loop
 mul-put-four-5 c = search needs
 
-shared-slice-read-put-four-4 : tie.Need-shared-slice-read-put-four-4 Inv-loop μ-loop
-shared-slice-read-put-four-4 c = search needs
+element-copy-out-put-four-4 : tie.Need-element-copy-out-put-four-4 Inv-loop μ-loop
+element-copy-out-put-four-4 c = search needs
 
 put-four-requires : tie.Need-put-four-requires Inv-loop μ-loop
 put-four-requires c κs = search needs
@@ -85,13 +89,13 @@ loop-less c = search needs
 loop-again : tie.Need-loop-again Inv-loop μ-loop
 unfolding entry
 loop-again c =
-    let b = c .before .before .before .before .before .before .before .before in
-    let l = b .loop in
-    let h = b .before .before in
-    let a = h .before .before .before .before .before .before .args in
+    let t = c .before .before .before .before .before .before .before in
+    let l = t .before .loop in
+    let h = t .before .before .before .before in
+    let a = h .before .before .args in
     let f = words (a .vs .now) (a .es .now) (a .a1s .now) (a .a2s .now) in
     let e : l .i ≡ l .i + 1 - 1 = omega arith in (
-      omega arith,
+      omega (arith, t .loop-test .taken),
       l .inv .1,
       c .before .put-four .kept .0 ∙ l .inv .2,
       over-next f 16 (λ j. refl) 5 (l .i) _ (h .head .last .0) (omega (arith, h .head .kept .0))
@@ -116,15 +120,15 @@ slice-aggregate-challenge c =
 challenge-requires : tie.Need-challenge-requires Inv-loop μ-loop
 challenge-requires c κs =
     let l = c .before .before .loop in
-    let s = c .before .before .before .before .before .before .before .before .before .before in
+    let s = c .before .before .before .before .before .before .before in
     (order-positive _ _ (s .pre .0) (s .pre .1), omega (arith, length-take-le (5 + 16 * l .i) (l .m) (omega arith)))
 
 returns : tie.Need-returns Inv-loop μ-loop
 unfolding challengeOf dealingMessage
 returns c =
     let l = c .before .before .before .loop in
-    let h = c .before .before .before .before .before in
-    let s = h .before .before .before .before .before .before in
+    let h = c .before .before .before .before .before .before in
+    let s = h .before .before in
     let a = s .args in
     let f = words (a .vs .now) (a .es .now) (a .a1s .now) (a .a2s .now) in
     let e : l .i ≡ a .rd .n = omega arith in
@@ -142,18 +146,19 @@ dealing-challenge-spec =
     μ-loop
     slice-aggregate-head
     head-requires
+    cast-n
     loop-holds
     slice-aggregate-put-four
     mul-put-four
     add-put-four
     mul-put-four-2
-    shared-slice-read-put-four
+    element-copy-out-put-four
     mul-put-four-3
-    shared-slice-read-put-four-2
+    element-copy-out-put-four-2
     mul-put-four-4
-    shared-slice-read-put-four-3
+    element-copy-out-put-four-3
     mul-put-four-5
-    shared-slice-read-put-four-4
+    element-copy-out-put-four-4
     put-four-requires
     add-i
     loop-less
