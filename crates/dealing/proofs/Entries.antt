@@ -1,11 +1,12 @@
--- Lists of the members' figures: the member and the figure at an index, arrays that a loop fills, and messages told by such lists.
-use mathlib.Core.Path.{_≡_, refl, ap, _∙_}
+-- Arrays of the members' figures: the figure of a member, arrays that a loop fills, and messages told by such arrays.
+use mathlib.Core.Path.{_≡_, refl, sym, ap, _∙_}
 use mathlib.Core.List.{List, [], _∷_}
 use Prim.Native.Nat.{ℕ, _+_, _-_, _≤_, _<_}
 use native.Mathlib.Omega.{arith}
 use lib.ListN.{length, getD, take, set, length-set}
+use lib.Seq.{getD-take}
 use Rattle.words.specs.Lists.{map, upFrom}
-use Rattle.words.proofs.Lists.{All-each, map-length, map-at, map-same, up-length, up-at}
+use Rattle.words.proofs.Lists.{All-each, map-length, map-at, map-same, up-length}
 use Rattle.sharing.specs.Round.{members}
 use Rattle.sharing.specs.declared.Round.{Round}
 use Rattle.sharing.proofs.Loops.{member-at}
@@ -15,25 +16,23 @@ use Rattle.posted.proofs.Filled.{filled-next}
 use Rattle.posted.proofs.Members.{each-members}
 use Rattle.posted.proofs.Challenges.{bytes-same, message-same}
 
--- ---- members by index, from 0
-module _ (n k : ℕ) (h : k < n) where
-  pub index-within : k < length (members n)
-  index-within = omega (arith, up-length 1 n)
+-- ---- a list that has f at each member
+pub figures-length : (f : ℕ → ℕ) (n : ℕ) {l : List ℕ} → l ≡ map f (members n) → length l ≡ n
+figures-length f n e = ap length e ∙ map-length f (members n) ∙ up-length 1 n
 
-  pub number-at : getD (members n) k 0 ≡ k + 1
-  number-at = up-at 1 n k h ∙ omega arith
+pub record Figures (f : ℕ → ℕ) (n : ℕ) (l : List ℕ) : Type 0 where
+  pub each : (i : ℕ) → 1 ≤ i → i ≤ n → entry l i ≡ f i
 
--- ---- a list of f at each member
-module _ (f : ℕ → ℕ) (n : ℕ) where
-  pub figures-length : {l : List ℕ} → l ≡ map f (members n) → length l ≡ n
-  figures-length e = ap length e ∙ map-length f (members n) ∙ up-length 1 n
-
-  pub entry-is : {l : List ℕ} → l ≡ map f (members n) → (i : ℕ) → 1 ≤ i → i ≤ n → entry l i ≡ f i
-  unfolding entry
-  entry-is e i h k =
-      ap (λ (l : List ℕ). getD l (i - 1) 0) e
-      ∙ map-at f (members n) (i - 1) 0 0 (omega (arith, up-length 1 n))
-      ∙ ap f (member-at n i h k)
+pub figures : (f : ℕ → ℕ) (n : ℕ) (l : List ℕ) → take n l ≡ map f (members n) → Figures f n l
+unfolding entry
+figures f n l e =
+    record {
+      each = λ i h k.
+          sym (getD-take n l (i - 1) 0 (omega arith))
+          ∙ ap (λ (x : List ℕ). getD x (i - 1) 0) e
+          ∙ map-at f (members n) (i - 1) 0 0 (omega (arith, up-length 1 n))
+          ∙ ap f (member-at n i h k);
+    }
 
 -- ---- an array of 31 places, of which the first k hold f at the first k members
 pub record HoldsFirst (f : ℕ → ℕ) (k : ℕ) (l : List ℕ) : Type 0 where
@@ -45,34 +44,29 @@ module _ (f : ℕ → ℕ) where
   holds-none l e = record { size = e; first = refl }
 
   module _ (k : ℕ) {l : List ℕ} (H : HoldsFirst f k l) where
-    pub holds-next : {x : ℕ} → k < 31 → x ≡ f (1 + k) → HoldsFirst f (k + 1) (set l k x)
+    pub holds-next : {x : ℕ} → k < 31 → x ≡ f (k + 1) → HoldsFirst f (k + 1) (set l k x)
     holds-next {x} h e =
-        record { size = simp length-set (H .size); first = filled-next f 1 k x l (omega (arith, H .size)) (H .first) e }
+        let next : k + 1 ≡ 1 + k = omega arith in
+        record { size = simp length-set (H .size); first = filled-next f 1 k x l (omega (arith, H .size)) (H .first) (e ∙ ap f next) }
 
-    pub holds-all : {n : ℕ} → k ≡ n → take k l ≡ map f (members n)
-    holds-all e = H .first ∙ ap (λ (i : ℕ). map f (members i)) e
+    pub holds-all : {n : ℕ} → k ≡ n → take n l ≡ map f (members n)
+    holds-all e = rw (← e) (H .first)
 
 -- ---- messages over the members' figures
-module _ (R : Round) (d : ℕ) where
-  abbrev n : ℕ
-  n = R .n
-
-  pub dealing-same : (v Y a b : ℕ → ℕ) {vs es fs gs : List ℕ}
-      → vs ≡ map v (members n) → es ≡ map Y (members n) → fs ≡ map a (members n) → gs ≡ map b (members n)
+module _ (R : Round) (d : ℕ) {v Y : ℕ → ℕ} {vs es : List ℕ} (p : Figures v (R .n) vs) (q : Figures Y (R .n) es) where
+  pub dealing-same : {a b : ℕ → ℕ} {fs gs : List ℕ} → Figures a (R .n) fs → Figures b (R .n) gs
       → challengeOf R (dealingMessage R d (entry vs) (entry es) (entry fs) (entry gs)) ≡ challengeOf R (dealingMessage R d v Y a b)
-  dealing-same v Y a b p q r s =
+  dealing-same {a} {b} r s =
       ap (challengeOf R)
-      (message-same R d _ _ _ _ v Y a b
-      (λ i h l j. entry-is v n p i h l j ∷ entry-is Y n q i h l j ∷ entry-is a n r i h l j ∷ entry-is b n s i h l j ∷ []))
+      (message-same R d _ _ _ _ v Y a b (λ i h l j. p .each i h l j ∷ q .each i h l j ∷ r .each i h l j ∷ s .each i h l j ∷ []))
 
-  pub polynomial-same : (v Y : ℕ → ℕ) {vs es : List ℕ} → vs ≡ map v (members n) → es ≡ map Y (members n)
-      → checkPolynomial R d (entry vs) (entry es) ≡ checkPolynomial R d v Y
+  pub polynomial-same : checkPolynomial R d (entry vs) (entry es) ≡ checkPolynomial R d v Y
   unfolding checkPolynomial coefficientMessage
-  polynomial-same v Y {vs} {es} p q =
+  polynomial-same =
       let f : ℕ → List ℕ = λ i. entry vs i ∷ entry es i ∷ [] in
       let g : ℕ → List ℕ = λ i. v i ∷ Y i ∷ [] in
-      let same = bytes-same f g (members n) (each-members (λ i. f i ≡ g i) n (λ i h l j. entry-is v n p i h l j ∷ entry-is Y n q i h l j ∷ [])) in
+      let same = bytes-same f g (members (R .n)) (each-members (λ i. f i ≡ g i) (R .n) (λ i h l j. p .each i h l j ∷ q .each i h l j ∷ [])) in
       let u : ℕ → ℕ = λ k. challengeOf R (coefficientMessage R d (entry vs) (entry es) k) in
       let w : ℕ → ℕ = λ k. challengeOf R (coefficientMessage R d v Y k) in
-      let ks : List ℕ = upFrom 0 (n - R .t) in
+      let ks : List ℕ = upFrom 0 (R .n - R .t) in
       map-same u w ks (All-each {P = λ k. u k ≡ w k} ks (λ k j. challengeOf R (message 0x50 R d (k ∷ same j))))

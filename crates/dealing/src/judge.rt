@@ -6,7 +6,6 @@ ghost use lib.Dec.{eqb};
 ghost use lib.ListN.{length, take, drop};
 ghost use Rattle.words.specs.Lists.{all};
 ghost use Rattle.words.specs.Checks.{refusal, Met};
-ghost use Rattle.words.specs.Bytes.{recordIn};
 ghost use Rattle.group.specs.Element.{isElement, isExponent};
 ghost use Rattle.sharing.specs.Round.{groupIn, roundChecks, members};
 ghost use Rattle.sharing.specs.Answer.{checkOutcomeOf, degreeProduct};
@@ -30,21 +29,19 @@ use sharing::Round;
 use sharing::degree_product;
 use sharing::is_member;
 use sharing::round_group;
-use words::read_record;
+use words::Record;
 
-// Whether a record is a line of the dealer d for member i. Internal: callers ensure that the bytes are one record.
-fn is_line_for(d: u32, i: u32, line: &[u8]) -> bool
-    requires { ⌜ length (now line) ≡ 32 ⌝ }
-    ensures { λ r. ⌜ r ≡ isLineFor d i (recordIn (now (line .entry))) ⌝ }
+// Whether a record is a line of the dealer d for member i.
+fn is_line_for(d: u32, i: u32, line: Record) -> bool
+    ensures { λ r. ⌜ r ≡ isLineFor d i line ⌝ }
 {
-    let r = read_record(line);
-    if !is_line_record(r) {
+    if !is_line_record(line) {
         return false;
     }
-    if r.w1 != d {
+    if line.w1 != d {
         return false;
     }
-    r.w2 == i
+    line.w2 == i
 }
 
 // Whether each member's record is a line of the dealer d for him. Internal: callers ensure that the bytes are n records.
@@ -54,9 +51,8 @@ fn all_lines(d: u32, lines: &[u8], n: u32) -> bool
 {
     let mut i = 0;
     while i < n {
-        let from = 32 * i as usize;
-        let to = from + 32;
-        if !is_line_for(d, i + 1, &lines[from..to]) {
+        let line = record_at(lines, i as usize);
+        if !is_line_for(d, i + 1, line) {
             return false;
         }
         i += 1;
@@ -115,7 +111,7 @@ fn degree_passes(gr: Group, rd: Round, d: u32, lines: &[u8]) -> bool
     let n = rd.n as usize;
     let vs = column(lines, n, 3);
     let es = column(lines, n, 4);
-    let cs = check_polynomial(gr, rd, d, &vs[..n], &es[..n]);
+    let cs = check_polynomial(gr, rd, d, &vs, &es);
     let m = (rd.n - rd.t) as usize;
     degree_product(gr, rd.n, &vs[..n], &cs[..m]).0 == 1
 }
@@ -126,22 +122,21 @@ fn recomputed(gr: Group, rd: Round, d: u32, ys: &[u32], lines: &[u8]) -> Exponen
     requires { ⌜ (Met (roundChecks rd)) × (gr ≡ groupIn rd) × (d ≤ rd .n) × (length (now ys) ≡ rd .n) × (length (now lines) ≡ 32 * rd .n) ⌝ }
     ensures { λ r. ⌜ r .0 ≡ recomputed rd d (now (ys .entry)) (now (lines .entry)) ⌝ }
 {
-    let mut vs = [0u32; 31];
-    let mut es = [0u32; 31];
+    let n = rd.n as usize;
+    let vs = column(lines, n, 3);
+    let es = column(lines, n, 4);
     let mut a1s = [0u32; 31];
     let mut a2s = [0u32; 31];
     let mut i = 0;
-    while i < ys.len() {
+    while i < n {
         let line = record_at(lines, i);
         let r = Exponent(line.w5);
         let c = Exponent(line.w6);
-        vs[i] = line.w3;
-        es[i] = line.w4;
         a1s[i] = announced(gr, gr.g, Element(line.w3), c, r).0;
         a2s[i] = announced(gr, Element(ys[i]), Element(line.w4), c, r).0;
         i += 1;
     }
-    dealing_challenge(gr, rd, d, &vs[..i], &es[..i], &a1s[..i], &a2s[..i])
+    dealing_challenge(gr, rd, d, &vs, &es, &a1s, &a2s)
 }
 
 // The first number refused of 8, 3, 6 for a key, and 4; 0 where none is. Internal: callers hand over the round's group.

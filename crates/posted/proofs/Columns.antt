@@ -1,4 +1,4 @@
--- A word of a member's record is a word of the members' bytes.
+-- A member's record, by its index from 0; and a word of it is a word of the members' bytes.
 use mathlib.Core.Path.{_≡_, sym, ap, _∙_}
 use mathlib.Core.List.{List}
 use Prim.Native.Nat.{ℕ, _+_, _-_, _*_, _<_}
@@ -8,7 +8,7 @@ use Rattle.words.specs.Lists.{upFrom}
 use Rattle.words.specs.Bytes.{recordWords, wordAt, recordIn}
 use Rattle.words.proofs.Lists.{map-at, up-at, up-length}
 use Rattle.words.proofs.Bytes.{word-part}
-use Rattle.posted.specs.Records.{recordAt, wordOf}
+use Rattle.posted.specs.Records.{recordAt, recordOf, wordOf}
 
 -- the words of a record are those of its bytes, in order
 record-word : (p : List ℕ) (k : ℕ) → k < 8 → getD (recordWords (recordIn p)) k 0 ≡ wordAt p (4 * k)
@@ -24,3 +24,6 @@ word-of k b i h =
     sym (word-part 32 (32 * i) b (4 * k) (omega arith))
     ∙ sym (record-word (take 32 (drop (32 * i) b)) k h)
     ∙ ap (λ (j : ℕ). getD (recordWords (recordAt b j)) k 0) e
+
+pub record-of : (b : List ℕ) (k : ℕ) → recordAt b k ≡ recordOf b (k + 1)
+record-of b k = let e : k ≡ k + 1 - 1 = omega arith in ap (recordAt b) e

@@ -1,16 +1,16 @@
--- The members 1 to n: a fact of each as a fact of their list, and tests of their numbers and keys as facts.
-use mathlib.Core.Path.{_≡_, refl, sym, _∙_, subst}
+-- The members 1 to n: a fact of each as a fact of their list, loops over them, and tests of their numbers and keys as facts.
+use mathlib.Core.Path.{_≡_, refl, sym, ap, _∙_, subst}
 use mathlib.Core.Bool.{Bool, true, false, not}
 use mathlib.Core.List.{List}
 use mathlib.Core.Logic.{_↔_}
-use Prim.Native.Nat.{ℕ, _+_, _-_, _≤_}
+use Prim.Native.Nat.{ℕ, _+_, _-_, _≤_, _<_}
 use native.Mathlib.Omega.{arith}
 use borrow.Author.Tests.{leb-true, le-leb}
-use lib.ListN.{length, getD}
+use lib.ListN.{length, getD, drop}
 use lib.Dec.{leb, eqb}
 use Rattle.words.specs.Lists.{All, all}
 use Rattle.words.proofs.Lists.{All-to, All-at, up-length, up-within, up-at}
-use Rattle.words.proofs.Tests.{false-true, and-true, true-and, all-true, true-all}
+use Rattle.words.proofs.Tests.{false-true, and-true, true-and, all-true, true-all, all-next, all-stop, all-end}
 use Rattle.group.specs.Element.{isElement}
 use Rattle.group.specs.declared.Group.{Group}
 use Rattle.sharing.specs.Round.{isMember, members}
@@ -39,6 +39,25 @@ members-false f n i h l e = by (all f (members n)) refl
     by true s = absurd (false-true (sym e ∙ members-exactly f n .0 s i h l))
     by false s = s
 
+-- ---- members by index, from 0
+module _ (n k : ℕ) (h : k < n) where
+  pub index-within : k < length (members n)
+  index-within = omega (arith, up-length 1 n)
+
+  pub number-at : getD (members n) k 0 ≡ k + 1
+  number-at = up-at 1 n k h ∙ omega arith
+
+-- ---- a loop that tests every member: all pass exactly if those from index k on do
+module _ (f : ℕ → Bool) (n k : ℕ) (e : all f (members n) ≡ all f (drop k (members n))) where
+  pub tests-stop : k < n → f (k + 1) ≡ false → false ≡ all f (members n)
+  tests-stop h t = sym (e ∙ all-stop f (members n) k 0 (index-within n k h) (ap f (number-at n k h) ∙ t))
+
+  pub tests-next : k < n → f (k + 1) ≡ true → all f (members n) ≡ all f (drop (k + 1) (members n))
+  tests-next h t = e ∙ all-next f (members n) k 0 (index-within n k h) (ap f (number-at n k h) ∙ t)
+
+  pub tests-end : k ≡ n → true ≡ all f (members n)
+  tests-end s = sym (e ∙ all-end f (members n) k (s ∙ sym (up-length 1 n)))
+
 -- ---- tests
 pub member-exactly : (n i : ℕ) → (isMember n i ≡ true) ↔ ((1 ≤ i) × (i ≤ n))
 unfolding isMember
@@ -52,6 +71,10 @@ unfolding isKey
 key-element G y e = and-true (isElement G y) (not (eqb y 1)) e .0
 
 -- ---- figures in a list of the members' figures
+pub entry-at : (l : List ℕ) (k : ℕ) → getD l k 0 ≡ entry l (k + 1)
+unfolding entry
+entry-at l k = let e : k ≡ k + 1 - 1 = omega arith in ap (λ (i : ℕ). getD l i 0) e
+
 pub entry-all : (P : ℕ → Type 0) (l : List ℕ) → All P l → (i : ℕ) → 1 ≤ i → i ≤ length l → P (entry l i)
 unfolding entry
 entry-all P l a i h k = All-at P l (i - 1) 0 (omega arith) a

@@ -2,20 +2,20 @@
 use mathlib.Core.Bool.{Bool}
 use mathlib.Core.List.{List}
 use mathlib.Core.Path.{_≡_, refl, sym, ap, _∙_}
-use Prim.Native.Nat.{ℕ, _+_, _-_, _≤_, _<_}
+use Prim.Native.Nat.{ℕ, _+_, _-_, _≤_}
 use native.Mathlib.Omega.{arith}
 use borrow.Author.Needs.{needs}
 use borrow.Author.Tests.{eq-eqb, ne-eqb}
 use lib.Dec.{eqb}
-use lib.ListN.{length, drop}
-use Rattle.words.proofs.Lists.{up-length}
-use Rattle.words.proofs.Tests.{all-next, all-stop, all-end}
+use lib.ListN.{drop}
 use Rattle.words.specs.Lists.{all}
+use Rattle.words.specs.declared.Record.{Record}
 use Rattle.group.specs.declared.Exponent.{Exponent}
 use Rattle.sharing.specs.Round.{members}
 use Rattle.dealing.specs.Dealing.{cIn}
 use Rattle.posted.specs.Records.{recordAt}
-use Rattle.dealing.proofs.Entries.{index-within, number-at}
+use Rattle.posted.proofs.Members.{tests-stop, tests-next, tests-end}
+use Rattle.posted.proofs.Columns.{record-of}
 use Rattle.dealing.proofs.judge.all_challenges.Statement.{statement}
 use Rattle.dealing.proofs.judge.all_challenges.Tie as tie
 
@@ -35,21 +35,17 @@ loop-holds c = (search needs, refl)
 record-at-requires : tie.Need-record-at-requires Inv-loop μ-loop
 record-at-requires c κs = search needs
 
-returns : tie.Need-returns Inv-loop μ-loop
+-- the test of the record is that of its member
+tested : (c : Exponent) (b : List ℕ) (k : ℕ) {r : Record} {t : Bool} → r ≡ recordAt b k → eqb (r .w6) (c .0) ≡ t → hasChallenge c b (k + 1) ≡ t
 unfolding cIn
+tested c b k e t = sym (ap (λ (r : Record). eqb (r .w6) (c .0)) (e ∙ record-of b k)) ∙ t
+
+returns : tie.Need-returns Inv-loop μ-loop
 returns c =
     let r = c .before .before .before in
     let t = r .before in
-    let o = t .before in
-    let s = o .before .before in
-    let a = s .args in
-    let l = o .loop in
-    let h : l .i < a .n = t .loop-test .taken in
-    let f = hasChallenge (a .c) (a .lines .now) in
-    let k : l .i ≡ l .i + 1 - 1 = omega arith in
-    let line = r .record-at .ensures ∙ ap (recordAt (a .lines .now)) k in
-    let test = ap f (number-at (a .n) (l .i) h) ∙ sym (λ j. eqb (line j .w6) (a .c .0)) ∙ ne-eqb _ _ (c .if1 .taken) in
-    sym (l .inv .1 ∙ all-stop f (members (a .n)) (l .i) 0 (index-within (a .n) (l .i) h) test)
+    let l = t .before .loop in
+    tests-stop _ _ (l .i) (l .inv .1) (t .loop-test .taken) (tested _ _ (l .i) (r .record-at .ensures) (ne-eqb _ _ (c .if1 .taken)))
 
 add-i : tie.Need-add-i Inv-loop μ-loop
 add-i c = search needs
@@ -58,29 +54,17 @@ loop-less : tie.Need-loop-less Inv-loop μ-loop
 loop-less c = search needs
 
 loop-again : tie.Need-loop-again Inv-loop μ-loop
-unfolding cIn
 loop-again c =
     let r = c .before .before .before in
     let t = r .before in
-    let o = t .before in
-    let s = o .before .before in
-    let a = s .args in
-    let l = o .loop in
-    let h : l .i < a .n = t .loop-test .taken in
-    let f = hasChallenge (a .c) (a .lines .now) in
-    let k : l .i ≡ l .i + 1 - 1 = omega arith in
-    let line = r .record-at .ensures ∙ ap (recordAt (a .lines .now)) k in
-    let test = ap f (number-at (a .n) (l .i) h) ∙ sym (λ j. eqb (line j .w6) (a .c .0)) ∙ eq-eqb _ _ (c .if1 .left) in
-    (omega arith, l .inv .1 ∙ all-next f (members (a .n)) (l .i) 0 (index-within (a .n) (l .i) h) test)
+    let l = t .before .loop in
+    (omega arith, tests-next _ _ (l .i) (l .inv .1) (t .loop-test .taken) (tested _ _ (l .i) (r .record-at .ensures) (eq-eqb _ _ (c .if1 .left))))
 
 returns-2 : tie.Need-returns-2 Inv-loop μ-loop
 returns-2 c =
-    let o = c .before in
-    let s = o .before .before in
-    let a = s .args in
-    let l = o .loop in
-    let end : l .i ≡ length (members (a .n)) = omega (arith, up-length 1 (a .n)) in
-    sym (l .inv .1 ∙ all-end (hasChallenge (a .c) (a .lines .now)) (members (a .n)) (l .i) end)
+    let l = c .before .loop in
+    let end : l .i ≡ c .before .before .before .args .n = omega arith in
+    tests-end _ _ (l .i) (l .inv .1) end
 
 pub all-challenges-spec : {M : Type 1} → statement M
 all-challenges-spec =

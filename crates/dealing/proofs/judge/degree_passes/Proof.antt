@@ -9,7 +9,7 @@ use Rattle.sharing.proofs.Rounds.{ready}
 use Rattle.sharing.specs.Answer.{degreeProduct}
 use Rattle.dealing.specs.Dealing.{vIn, YIn, vsIn}
 use Rattle.posted.proofs.Challenges.{check-polynomial}
-use Rattle.dealing.proofs.Entries.{figures-length, polynomial-same}
+use Rattle.dealing.proofs.Entries.{figures-length, figures, polynomial-same}
 use Rattle.dealing.proofs.Sizes.{group-proper, members-few}
 use Rattle.dealing.proofs.judge.degree_passes.Statement.{statement}
 use Rattle.dealing.proofs.judge.degree_passes.Tie as tie
@@ -27,32 +27,10 @@ column-requires-2 c κs =
     let s = c .before .before .before in
     (ready (s .args .rd) (s .pre .0) .at-most, s .pre .3, omega arith)
 
-array-share-prefix-vs : tie.Need-array-share-prefix-vs
-array-share-prefix-vs c =
-    let s = c .before .before .before .before in
-    omega (arith, ready (s .args .rd) (s .pre .0) .at-most)
-
-slice-aggregate-check-polynomial : tie.Need-slice-aggregate-check-polynomial
-slice-aggregate-check-polynomial c =
-    let v = c .before .before in
-    sym (figures-length _ _ (v .column .ensures))
-
-array-share-prefix-es : tie.Need-array-share-prefix-es
-array-share-prefix-es c =
-    let s = c .before .before .before .before .before in
-    omega (arith, ready (s .args .rd) (s .pre .0) .at-most)
-
-slice-aggregate-check-polynomial-2 : tie.Need-slice-aggregate-check-polynomial-2
-slice-aggregate-check-polynomial-2 c =
-    let e = c .before .before in
-    sym (figures-length _ _ (e .column2 .ensures))
-
 check-polynomial-requires : tie.Need-check-polynomial-requires
 check-polynomial-requires c κs =
-    let e = c .before .before in
-    let v = e .before in
-    let s = v .before .before .before in
-    (s .pre .0, s .pre .1, s .pre .2, figures-length _ _ (v .column .ensures), figures-length _ _ (e .column2 .ensures))
+    let s = c .before .before .before .before .before .before in
+    (s .pre .0, s .pre .1, s .pre .2)
 
 sub-m : tie.Need-sub-m
 sub-m c =
@@ -62,8 +40,8 @@ sub-m c =
 cast-m : tie.Need-cast-m
 cast-m c = search needs
 
-array-share-prefix-vs-2 : tie.Need-array-share-prefix-vs-2
-array-share-prefix-vs-2 c =
+array-share-prefix-vs : tie.Need-array-share-prefix-vs
+array-share-prefix-vs c =
     let s = c .before .before .before .before .before .before .before .before in
     omega (arith, ready (s .args .rd) (s .pre .0) .at-most)
 
@@ -99,7 +77,7 @@ returns c =
     let s = v .before .before .before in
     let a = s .args in
     let b = a .lines .now in
-    let same = polynomial-same (a .rd) (a .d) (vIn b) (YIn b) (v .column .ensures) (e .column2 .ensures) in
+    let same = polynomial-same (a .rd) (a .d) (figures (vIn b) _ _ (v .column .ensures)) (figures (YIn b) _ _ (e .column2 .ensures)) in
     let product = d .degree-product .ensures ∙ (λ j. degreeProduct (a .gr) (a .rd .n) (v .column .ensures j) ((p .check-polynomial .ensures ∙ same) j)) in
     ap (λ (x : ℕ). eqb x 1) product
 
@@ -110,14 +88,10 @@ degree-passes-spec =
     cast-n
     column-requires
     column-requires-2
-    array-share-prefix-vs
-    slice-aggregate-check-polynomial
-    array-share-prefix-es
-    slice-aggregate-check-polynomial-2
     check-polynomial-requires
     sub-m
     cast-m
-    array-share-prefix-vs-2
+    array-share-prefix-vs
     slice-aggregate-degree-product
     array-share-prefix-cs
     slice-aggregate-degree-product-2
