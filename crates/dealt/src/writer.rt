@@ -1,17 +1,18 @@
-// The writing of a dealing: the checks of its figures, its challenge, and a line for each member.
+// The writing of a dealing: the checks of its figures, the powers, the challenge, and a line for each member.
 ghost use mathlib.Core.Path.{_≡_};
 ghost use mathlib.Core.Bool.{_&&_};
-ghost use Prim.Native.Nat.{_+_, _*_, _<_, _≤_};
+ghost use Prim.Native.Nat.{_*_, _<_, _≤_};
 ghost use lib.Dec.{eqb};
-ghost use lib.ListN.{length, drop};
-ghost use Rattle.words.specs.Lists.{Below};
+ghost use lib.ListN.{length, take, drop};
+ghost use Rattle.words.specs.Lists.{Below, map};
 ghost use Rattle.words.specs.Checks.{refusal, Met, lentAfter};
 ghost use Rattle.field.specs.Polynomial.{valueAt};
 ghost use Rattle.group.specs.Power.{pow};
 ghost use Rattle.sharing.specs.Round.{groupIn, roundChecks, members};
 ghost use Rattle.sharing.specs.Answer.{checkOutcomeOf};
-ghost use Rattle.posted.specs.Records.{recordsBytes};
-ghost use Rattle.dealing.specs.Dealing.{dealtC, dealtLine, writtenDealing, writeDealingChecks, writeDealingOutcome};
+ghost use Rattle.posted.specs.Records.{entry, recordsBytes};
+ghost use Rattle.equality.specs.Equality.{response};
+ghost use Rattle.dealing.specs.Dealing.{writtenDealing, writeDealingChecks, writeDealingOutcome};
 use equality::response;
 use group::Element;
 use group::Exponent;
@@ -26,76 +27,89 @@ use sharing::is_member;
 use sharing::round_group;
 use words::Record;
 
-// The base b to the value of the polynomial cs at member i: the commitment for b = g, the encrypted share for his key.
-// Internal: callers ensure that p is above 1 and that q is not 0.
-fn power_at(gr: Group, b: Element, cs: &[u32], i: u32) -> Element
-    requires { ⌜ (1 < gr .p) × (0 < gr .q) ⌝ }
-    ensures { λ r. ⌜ r .0 ≡ pow (gr .p) (b .0) (valueAt (gr .q) (now (cs .entry)) i) ⌝ }
+// The value of the polynomial cs at each member: the first n places of an array.
+// Internal: callers ensure that q is not 0 and that n is at most 31.
+fn values(gr: Group, cs: &[u32], n: usize) -> [u32; 31]
+    requires { ⌜ (0 < gr .q) × (n ≤ 31) ⌝ }
+    ensures { λ r. ⌜ take n r ≡ map (valueAt (gr .q) (now (cs .entry))) (members n) ⌝ }
 {
-    b.power(gr, Exponent(field::value_at(gr.q, cs, i)))
-}
-
-// The challenge of the dealing, over the announcements of the nonces.
-// Internal: callers ensure a proper round and its group, a dealer at most n, n keys and n nonces.
-fn dealt_challenge(gr: Group, rd: Round, d: u32, ys: &[u32], cs: &[u32], ws: &[u32]) -> Exponent
-    requires { ⌜ (Met (roundChecks rd)) × (gr ≡ groupIn rd) × (d ≤ rd .n) × (length (now ys) ≡ rd .n) × (length (now ws) ≡ rd .n) ⌝ }
-    ensures { λ r. ⌜ r .0 ≡ dealtC rd d (now (ys .entry)) (now (cs .entry)) (now (ws .entry)) ⌝ }
-{
-    let mut vs = [0u32; 31];
-    let mut es = [0u32; 31];
-    let mut a1s = [0u32; 31];
-    let mut a2s = [0u32; 31];
+    let mut xs = [0u32; 31];
     let mut i = 0;
-    while i < ys.len() {
-        let member = i as u32 + 1;
-        let y = Element(ys[i]);
-        let w = Exponent(ws[i]);
-        vs[i] = power_at(gr, gr.g, cs, member).0;
-        es[i] = power_at(gr, y, cs, member).0;
-        a1s[i] = gr.g.power(gr, w).0;
-        a2s[i] = y.power(gr, w).0;
+    while i < n {
+        xs[i] = field::value_at(gr.q, cs, i as u32 + 1);
         i += 1;
     }
-    dealing_challenge(gr, rd, d, &vs[..i], &es[..i], &a1s[..i], &a2s[..i])
+    xs
 }
 
-// The line of the member of index k, from 0, under the challenge c.
-// Internal: callers ensure that p is above 1, that the index is below 31, and that there are a key and a nonce below q for it.
-fn line(gr: Group, d: u32, ys: &[u32], cs: &[u32], ws: &[u32], c: Exponent, k: usize) -> Record
-    requires { ⌜ (1 < gr .p) × (k < 31) × (k < length (now ys)) × (k < length (now ws)) × (Below (gr .q) (now ws)) ⌝ }
-    ensures { λ r. ⌜ r ≡ dealtLine gr d (now (ys .entry)) (now (cs .entry)) (now (ws .entry)) (c .0) (k + 1) ⌝ }
+// Each member's base to his exponent: the first n places of an array.
+// Internal: callers ensure that p is above 1, n bases and n exponents, and that n is at most 31.
+fn powers(gr: Group, bs: &[u32], es: &[u32], n: usize) -> [u32; 31]
+    requires { ⌜ (1 < gr .p) × (n ≤ 31) × (n ≤ length (now bs)) × (n ≤ length (now es)) ⌝ }
+    ensures { λ r. ⌜ take n r ≡ map (λ i. pow (gr .p) (entry (now (bs .entry)) i) (entry (now (es .entry)) i)) (members n) ⌝ }
 {
-    let member = k as u32 + 1;
-    let x = Exponent(field::value_at(gr.q, cs, member));
-    let v = gr.g.power(gr, x);
-    let e = Element(ys[k]).power(gr, x);
-    let r = response(gr, Exponent(ws[k]), c, x);
-    Record {
-        w0: 2,
-        w1: d,
-        w2: member,
-        w3: v.0,
-        w4: e.0,
-        w5: r.0,
-        w6: c.0,
-        w7: 0,
+    let mut rs = [0u32; 31];
+    let mut i = 0;
+    while i < n {
+        rs[i] = Element(bs[i]).power(gr, Exponent(es[i])).0;
+        i += 1;
     }
+    rs
 }
 
-// Writes the line of each member under the challenge c.
-// Internal: callers ensure that p is above 1, as many keys as nonces, at most 31, nonces below q, and just the room for the lines.
-fn put_lines(gr: Group, d: u32, ys: &[u32], cs: &[u32], ws: &[u32], c: Exponent, out: &mut [u8])
-    requires { ⌜ (1 < gr .p) × (length (now ys) ≤ 31) × (length (now ws) ≡ length (now ys)) × (Below (gr .q) (now ws)) × (length (now out) ≡ 32 * length (now ys)) ⌝ }
-    ensures { λ _. ⌜ now (out .exit) ≡ recordsBytes (dealtLine gr d (now (ys .entry)) (now (cs .entry)) (now (ws .entry)) (c .0)) (members (length (now (ys .entry)))) ⌝ }
+// Writes the line of each member under the challenge c, from v, Y, the polynomial's value and the nonce of each, the Y in es.
+// Internal: callers ensure nonces below q, at most 31, and just the room for the lines.
+fn put_lines(
+    gr: Group,
+    d: u32,
+    vs: &[u32; 31],
+    es: &[u32; 31],
+    xs: &[u32; 31],
+    ws: &[u32],
+    c: Exponent,
+    out: &mut [u8],
+)
+    requires { ⌜ (length (now ws) ≤ 31) × (Below (gr .q) (now ws)) × (length (now out) ≡ 32 * length (now ws)) ⌝ }
+    ensures { λ _. ⌜ now (out .exit) ≡ recordsBytes
+        (λ i. record { w0 = 2; w1 = d; w2 = i; w3 = entry (now (vs .entry)) i; w4 = entry (now (es .entry)) i; w5 = response gr (entry (now (ws .entry)) i) (c .0) (entry (now (xs .entry)) i); w6 = c .0; w7 = 0 })
+        (members (length (now (ws .entry)))) ⌝ }
 {
     let mut i = 0;
-    while i < ys.len() {
-        let record = line(gr, d, ys, cs, ws, c, i);
+    while i < ws.len() {
+        let r = response(gr, Exponent(ws[i]), c, Exponent(xs[i]));
+        let line = Record {
+            w0: 2,
+            w1: d,
+            w2: i as u32 + 1,
+            w3: vs[i],
+            w4: es[i],
+            w5: r.0,
+            w6: c.0,
+            w7: 0,
+        };
         let from = 32 * i;
         let to = from + 32;
-        words::write_record(&mut out[from..to], record);
+        words::write_record(&mut out[from..to], line);
         i += 1;
     }
+}
+
+// Writes the lines of a dealing: commitments and encrypted shares, and the announcements of the nonces for the challenge.
+// Internal: callers ensure a proper round and its group, a dealer at most n, n keys, n nonces below q and just the room for n lines.
+fn put_dealing(gr: Group, rd: Round, d: u32, ys: &[u32], cs: &[u32], ws: &[u32], out: &mut [u8])
+    requires { ⌜ (Met (roundChecks rd)) × (gr ≡ groupIn rd) × (d ≤ rd .n) × (length (now ys) ≡ rd .n) × (length (now ws) ≡ rd .n)
+        × (Below (gr .q) (now ws)) × (length (now out) ≡ 32 * rd .n) ⌝ }
+    ensures { λ _. ⌜ now (out .exit) ≡ writtenDealing rd d (now (ys .entry)) (now (cs .entry)) (now (ws .entry)) ⌝ }
+{
+    let n = rd.n as usize;
+    let gs = [gr.g.0; 31];
+    let xs = values(gr, cs, n);
+    let vs = powers(gr, &gs, &xs, n);
+    let es = powers(gr, ys, &xs, n);
+    let a1s = powers(gr, &gs, ws, n);
+    let a2s = powers(gr, ys, ws, n);
+    let c = dealing_challenge(gr, rd, d, &vs, &es, &a1s, &a2s);
+    put_lines(gr, d, &vs, &es, &xs, ws, c, out);
 }
 
 // Whether there are n keys, t coefficients, n nonces and room for n lines.
@@ -167,8 +181,7 @@ pub fn write_dealing(
             if k != 0 {
                 return CheckAnswer::Refused(k);
             }
-            let c = dealt_challenge(gr, rd, d, ys, cs, ws);
-            put_lines(gr, d, ys, cs, ws, c, out);
+            put_dealing(gr, rd, d, ys, cs, ws, out);
             CheckAnswer::Passed
         }
     }

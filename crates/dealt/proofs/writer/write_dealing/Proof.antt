@@ -1,15 +1,12 @@
--- `write_dealing` meets its contract: the first stage that refuses decides, and where none does the lines under the dealing's challenge are written.
+-- `write_dealing` meets its contract: the first stage that refuses decides, and where none does the dealing is written.
 use mathlib.Core.List.{List}
-use mathlib.Core.Path.{refl, sym, _∙_}
+use mathlib.Core.Path.{refl, _∙_}
 use Prim.Native.Nat.{ℕ}
-use native.Mathlib.Omega.{arith}
 use borrow.Author.Needs.{needs}
 use lib.ListN.{length, drop}
 use Rattle.words.specs.Checks.{Check, Met}
-use Rattle.sharing.specs.Round.{members}
-use Rattle.dealing.specs.Dealing.{dealtLine, writtenDealing, writeDealingChecks, writeDealingOutcome}
-use Rattle.posted.specs.Records.{recordsBytes}
-use Rattle.dealing.proofs.Sizes.{below-order, group-proper, Writable, writable}
+use Rattle.dealing.specs.Dealing.{writtenDealing, writeDealingChecks, writeDealingOutcome}
+use Rattle.dealing.proofs.Sizes.{below-order, Writable, writable}
 use Rattle.posted.proofs.Stages.{round-first, group-is, later-first, later-met, bytes-kept, bytes-written}
 use Rattle.dealt.proofs.writer.write_dealing.Statement.{statement}
 use Rattle.dealt.proofs.writer.write_dealing.Tie as tie
@@ -55,25 +52,14 @@ returns c =
     bytes-kept (checks s) (written s) (s .args .out .now)
     (later-first _ (g .before .before .round-group .ensures) (g .gr .given .1) (drop 2 (checks s)) (k .write-refusal .ensures) (c .if1 .taken))
 
-dealt-challenge-requires : tie.Need-dealt-challenge-requires
-dealt-challenge-requires c κs =
-    let g = c .before .before .before in
-    let W = sizes c in
-    (W .to .round, group-is _ (g .before .before .round-group .ensures) (g .gr .given .1), W .to .dealer, W .to .keys, W .nonces)
-
-put-lines-requires : tie.Need-put-lines-requires
-put-lines-requires c κs =
-    let i = c .before .before in
+put-dealing-requires : tie.Need-put-dealing-requires
+put-dealing-requires c κs =
+    let i = c .before in
     let g = i .before .before .before in
     let s = g .before .before .before .before .before .before .before in
     let W = sizes i in
-    let e = group-is _ (g .before .before .round-group .ensures) (g .gr .given .1) in (
-      group-proper (s .args .rd) e (W .to .round) .prime-p .above-one,
-      omega (arith, W .to .few, W .to .keys),
-      W .nonces ∙ sym (W .to .keys),
-      below-order (s .args .rd) e (s .args .ws .now) (W .low),
-      omega (arith, W .size, W .to .keys),
-    )
+    let e = group-is _ (g .before .before .round-group .ensures) (g .gr .given .1) in
+    (W .to .round, e, W .to .dealer, W .to .keys, W .nonces, below-order (s .args .rd) e (s .args .ws .now) (W .low), W .size)
 
 returns-2 : tie.Need-returns-2
 unfolding writeDealingOutcome
@@ -86,21 +72,14 @@ same-length : tie.Need-same-length
 same-length c = search needs
 
 returns-3 : tie.Need-returns-3
-unfolding writeDealingOutcome writtenDealing
+unfolding writeDealingOutcome
 returns-3 c =
     let p = c .before .before in
-    let d = p .before .before in
-    let i = d .before in
+    let i = p .before .before in
     let g = i .before .before .before in
     let s = g .before .before .before .before .before .before .before in
-    let a = s .args in
-    let e = group-is _ (g .before .before .round-group .ensures) (g .gr .given .1) in
-    let o = bytes-written (checks s) (written s) (a .out .now) (met i) in (
-      o .0,
-      p .put-lines .ensures
-          ∙ (λ j. recordsBytes (dealtLine (e j) (a .d) (a .ys .now) (a .cs .now) (a .ws .now) (d .dealt-challenge .ensures j)) (members (sizes i .to .keys j)))
-          ∙ o .1,
-    )
+    let o = bytes-written (checks s) (written s) (s .args .out .now) (met i) in
+    (o .0, p .put-dealing .ensures ∙ o .1)
 
 pub write-dealing-spec : {M : Type 1} → statement M
 write-dealing-spec =
@@ -111,8 +90,7 @@ write-dealing-spec =
     enum-known-gr
     write-refusal-requires
     returns
-    dealt-challenge-requires
-    put-lines-requires
+    put-dealing-requires
     returns-2
     same-length
     returns-3)
