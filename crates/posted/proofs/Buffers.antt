@@ -82,7 +82,7 @@ module _ (f : ℕ → List ℕ) where
     over-length (i ∷ is) =
         length-append (wordsBytes (f i)) (bytesOver f is) ∙ omega (arith, words-length (f i), sized i, over-length is, mul-suc w (length is))
 
-    pub members-length : (i : ℕ) → length (bytesOver f (members i)) ≡ w * i
+    members-length : (i : ℕ) → length (bytesOver f (members i)) ≡ w * i
     members-length i = over-length (members i) ∙ ap (λ (n : ℕ). w * n) (up-length 1 i)
 
     -- the turn of a loop that puts the words of one member more
@@ -112,7 +112,7 @@ front : (i k : ℕ) (bs l : List ℕ) → k ≡ i + length bs → k ≤ length l
 front i k bs l e h = rw e (put-take i bs l (omega arith))
 
 module _ (tag : ℕ) (R : Round) (d k : ℕ) (bs rest : List ℕ) {l m : List ℕ} (e : l ≡ message tag R d rest) (h : k ≤ length l) where
-  pub behind-head : m ≡ putAt 5 bs l → k ≡ 5 + length bs → take k m ≡ message tag R d bs
+  behind-head : m ≡ putAt 5 bs l → k ≡ 5 + length bs → take k m ≡ message tag R d bs
   unfolding message
   behind-head p s = ap (take k) p ∙ front 5 k bs l s h ∙ ap (λ (x : List ℕ). take 5 x ++ bs) e
 
@@ -123,3 +123,18 @@ module _ (tag : ℕ) (R : Round) (d k : ℕ) (bs rest : List ℕ) {l m : List �
       ap (take k) p
       ∙ front 6 k bs (set l 5 x) s (omega (arith, length-set l 5 x))
       ∙ ap (λ (y : List ℕ). y ++ bs) (take-suc-set l 5 x (omega arith) ∙ ap (λ (y : List ℕ). take 5 y ++ (x ∷ [])) e)
+
+-- the words of all n members behind it, as a loop leaves them that ends at i
+module _ (f : ℕ → List ℕ) (w : ℕ) (sized : (i : ℕ) → 4 * length (f i) ≡ w) (tag : ℕ) (R : Round) (d n : ℕ) (rest : List ℕ) where
+  module _ {l m : List ℕ} {i : ℕ} (e : l ≡ message tag R d rest) (end : i ≡ n) where
+    pub over-head : 5 + w * n ≤ length l → m ≡ putAt 5 (bytesOver f (members i)) l → take (5 + w * n) m ≡ message tag R d (bytesOver f (members n))
+    over-head h p =
+        behind-head tag R d (5 + w * n) (bytesOver f (members n)) rest e h
+        (p ∙ ap (λ (k : ℕ). putAt 5 (bytesOver f (members k)) l) end) (omega (arith, members-length f w sized n))
+
+    -- with one byte more
+    pub over-byte : (x : ℕ) → 6 + w * n ≤ length l → m ≡ putAt 6 (bytesOver f (members i)) (set l 5 x)
+        → take (6 + w * n) m ≡ message tag R d (x ∷ bytesOver f (members n))
+    over-byte x h p =
+        behind-byte tag R d (6 + w * n) (bytesOver f (members n)) rest e h x
+        (p ∙ ap (λ (k : ℕ). putAt 6 (bytesOver f (members k)) (set l 5 x)) end) (omega (arith, members-length f w sized n))

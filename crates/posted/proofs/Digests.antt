@@ -1,4 +1,4 @@
--- The exponent that a digest gives, from the first two words of the hash value; and a round's order is not 0.
+-- The exponent that a digest gives, from the first two words of the hash value; a round's order is not 0, and the exponent is its challenge.
 use mathlib.Core.Path.{_≡_, sym, ap, _∙_}
 use mathlib.Core.List.{List}
 use Prim.Native.Nat.{ℕ, _+_, _*_, _/_, _%_, _^_, _≤_, _<_}
@@ -17,7 +17,7 @@ use Rattle.group.specs.declared.Group.{Group}
 use Rattle.sharing.specs.Round.{groupIn, roundChecks}
 use Rattle.sharing.specs.declared.Round.{Round}
 use Rattle.sharing.proofs.Rounds.{ready}
-use Rattle.posted.specs.Message.{bigEndian, exponentOf}
+use Rattle.posted.specs.Message.{bigEndian, exponentOf, challengeOf}
 
 -- four bytes of a word, behind the number a
 number-word : (a w : ℕ) → w < 2 ^ 32
@@ -43,5 +43,11 @@ module _ (G : Group) (m : List ℕ) {a : DigestAnswer} (o : outcomeOf a ≡ dige
   pub never-refused : {k : ℕ} → length m ≤ 65536 → a ≡ Refused k → ⊥
   never-refused {k} h f = omega (arith, digest-refused m k .0 (sym o ∙ ap outcomeOf f) .0)
 
-pub order-positive : (R : Round) (G : Group) → Met (roundChecks R) → G ≡ groupIn R → 0 < G .q
-order-positive R G m e = rw e (omega (arith, ready R m .proper .prime-q .above-one))
+-- ---- of a round
+module _ (R : Round) {G : Group} (e : G ≡ groupIn R) where
+  pub order-positive : Met (roundChecks R) → 0 < G .q
+  order-positive m = rw e (omega (arith, ready R m .proper .prime-q .above-one))
+
+  pub challenge-is : {x : ℕ} {l m : List ℕ} → x ≡ exponentOf G (hash l) → l ≡ m → x ≡ challengeOf R m
+  unfolding challengeOf
+  challenge-is p t = p ∙ (λ j. exponentOf (e j) (hash (t j)))

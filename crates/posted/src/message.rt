@@ -16,13 +16,13 @@ use group::Group;
 use sha256::DigestAnswer;
 use sharing::Round;
 
-// The first 8 bytes of the digest of m, as a number, modulo q.
-// Internal: callers ensure that q is not 0 and that a digest is not refused.
-fn challenge(gr: Group, m: &[u8]) -> Exponent
-    requires { ⌜ (0 < gr .q) × (length (now m) ≤ 65536) ⌝ }
-    ensures { λ r. ⌜ r .0 ≡ exponentOf gr (hash (now (m .entry))) ⌝ }
+// The first 8 bytes of the digest of the first k bytes of m, as a number, modulo q.
+// Internal: callers ensure that q is not 0, that the bytes are there and that a digest is not refused.
+fn challenge(gr: Group, m: &[u8], k: usize) -> Exponent
+    requires { ⌜ (0 < gr .q) × (k ≤ length (now m)) × (k ≤ 65536) ⌝ }
+    ensures { λ r. ⌜ r .0 ≡ exponentOf gr (hash (take k (now (m .entry)))) ⌝ }
 {
-    let DigestAnswer::Value(d) = sha256::digest(m) else {
+    let DigestAnswer::Value(d) = sha256::digest(&m[..k]) else {
         return Exponent(0);
     };
     let first = d.w0 as u64 * 4294967296 + d.w1 as u64;
@@ -82,8 +82,7 @@ pub fn dealing_challenge(
         put_four(&mut m, 5 + 16 * i, vs[i], es[i], a1s[i], a2s[i]);
         i += 1;
     }
-    let end = 5 + 16 * i;
-    challenge(gr, &m[..end])
+    challenge(gr, &m, 5 + 16 * n)
 }
 
 // The challenge of an opened share of member i: over y, Y, S, a1 and a2, with e for Y and s for S.
@@ -107,7 +106,7 @@ pub fn share_challenge(
     m[5] = i as u8;
     put_four(&mut m, 6, y.0, e.0, s.0, a1.0);
     words::put_word(&mut m, 22, a2.0);
-    challenge(gr, &m)
+    challenge(gr, &m, 26)
 }
 
 // The coefficient k of the judge's own check polynomial: over v and Y of every line, the Y in es.
@@ -125,8 +124,7 @@ fn coefficient(gr: Group, rd: Round, d: u32, vs: &[u32; 31], es: &[u32; 31], k: 
         put_two(&mut m, 6 + 8 * i, vs[i], es[i]);
         i += 1;
     }
-    let end = 6 + 8 * i;
-    challenge(gr, &m[..end])
+    challenge(gr, &m, 6 + 8 * n)
 }
 
 // The judge's own check polynomial: the first n - t places of an array.

@@ -1,9 +1,19 @@
 -- `challenge` meets its contract: a message of this length is not refused, and the first two words give the first 8 bytes.
+use mathlib.Core.Path.{sym}
+use Prim.Native.Nat.{_≤_}
 use native.Mathlib.Nat.{mod-lt, lt-trans}
+use native.Mathlib.Omega.{arith}
 use borrow.Author.Needs.{needs}
+use lib.ListN.{length, take}
+use lib.Seq.{length-take-le}
 use Rattle.posted.proofs.Digests.{exponent-value, never-refused}
 use Rattle.posted.proofs.message.challenge.Statement.{statement}
 use Rattle.posted.proofs.message.challenge.Tie as tie
+
+slice-aggregate-digest : tie.Need-slice-aggregate-digest
+slice-aggregate-digest c =
+    let s = c .before .before in
+    sym (length-take-le (s .args .k) (s .args .m .now) (s .pre .1))
 
 digest-requires : tie.Need-digest-requires
 digest-requires c κs = search needs
@@ -16,8 +26,10 @@ enum-told c = search needs
 
 returns : tie.Need-returns
 returns c =
-    let s = c .before .before .before .before in
-    absurd (never-refused (s .args .gr) (s .args .m .now) (c .before .before .digest .ensures) (s .pre .1) (c .enum-told .given .1))
+    let s = c .before .before .before .before .before in
+    let m = take (s .args .k) (s .args .m .now) in
+    let short : length m ≤ 65536 = omega (arith, length-take-le (s .args .k) (s .args .m .now) (s .pre .1), s .pre .2) in
+    absurd (never-refused (s .args .gr) m (c .before .before .digest .ensures) short (c .enum-told .given .1))
 
 cast-first : tie.Need-cast-first
 cast-first c = search needs
@@ -31,26 +43,27 @@ cast-first-2 c = search needs
 add-first : tie.Need-add-first
 add-first c = search needs
 
-cast-t6 : tie.Need-cast-t6
-cast-t6 c = search needs
-
-rem-t8 : tie.Need-rem-t8
-rem-t8 c = search needs
-
 cast-t9 : tie.Need-cast-t9
-cast-t9 c =
-    record { fits = lt-trans (mod-lt _ (c .before .before .before .before .before .before .before .before .pre .0)) (search needs) }
+cast-t9 c = search needs
+
+rem-t11 : tie.Need-rem-t11
+rem-t11 c = search needs
+
+cast-t12 : tie.Need-cast-t12
+cast-t12 c =
+    record { fits = lt-trans (mod-lt _ (c .before .before .before .before .before .before .before .before .before .pre .0)) (search needs) }
 
 returns-2 : tie.Need-returns-2
 returns-2 c =
     let v = c .before .before .before .before in
-    let s = v .before .before .before .before in
-    exponent-value (s .args .gr) (s .args .m .now) (v .before .before .digest .ensures) (v .d .given .1)
+    let s = v .before .before .before .before .before in
+    exponent-value (s .args .gr) (take (s .args .k) (s .args .m .now)) (v .before .before .digest .ensures) (v .d .given .1)
 
 pub challenge-spec : {M : Type 1} → statement M
 challenge-spec =
     tie.close
     (tie.spec
+    slice-aggregate-digest
     digest-requires
     enum-known-d
     enum-told
@@ -59,7 +72,7 @@ challenge-spec =
     mul-first
     cast-first-2
     add-first
-    cast-t6
-    rem-t8
     cast-t9
+    rem-t11
+    cast-t12
     returns-2)

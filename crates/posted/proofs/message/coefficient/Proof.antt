@@ -4,16 +4,15 @@ use mathlib.Core.List.{List, [], _∷_}
 use Prim.Native.Nat.{ℕ, _+_, _-_, _*_, _≤_}
 use native.Mathlib.Omega.{arith}
 use borrow.Author.Needs.{needs}
-use lib.ListN.{length, getD, set, length-set}
-use lib.Seq.{length-take-le}
+use lib.ListN.{length, set, length-set}
 use Rattle.words.specs.Bytes.{putAt}
-use Rattle.sha256.specs.Hash.{hash}
 use Rattle.sharing.specs.Round.{members}
 use Rattle.sharing.proofs.Rounds.{ready}
 use Rattle.posted.specs.Records.{entry}
-use Rattle.posted.specs.Message.{message, bytesOver, exponentOf, challengeOf, coefficientMessage}
-use Rattle.posted.proofs.Buffers.{put-none, members-length, over-next, behind-byte}
-use Rattle.posted.proofs.Digests.{order-positive}
+use Rattle.posted.specs.Message.{bytesOver, coefficientMessage}
+use Rattle.posted.proofs.Members.{entry-at}
+use Rattle.posted.proofs.Buffers.{put-none, over-next, over-byte}
+use Rattle.posted.proofs.Digests.{order-positive, challenge-is}
 use Rattle.posted.proofs.message.coefficient.Statement.{statement}
 use Rattle.posted.proofs.message.coefficient.Tie as tie
 
@@ -81,56 +80,45 @@ loop-less : tie.Need-loop-less Inv-loop μ-loop
 loop-less c = search needs
 
 loop-again : tie.Need-loop-again Inv-loop μ-loop
-unfolding entry
 loop-again c =
     let b = c .before .before .before .before .before .before in
     let l = b .loop in
     let h = b .before .before .before in
     let a = h .before .before .args in
-    let f = words (a .vs .now) (a .es .now) in
-    let e : l .i ≡ l .i + 1 - 1 = omega arith in (
+    let f = words (a .vs .now) (a .es .now) in (
       omega arith,
       l .inv .1,
       c .before .put-two .kept .0 ∙ l .inv .2,
       over-next f 8 (λ j. refl) 6 (l .i) _ (set (h .head .last .0) 5 (a .k)) (omega (arith, h .head .kept .0, length-set (h .head .last .0) 5 (a .k)))
-          (ap (λ (j : ℕ). getD (a .vs .now) j 0 ∷ getD (a .es .now) j 0 ∷ []) e)
+          (λ j. entry-at (a .vs .now) (l .i) j ∷ entry-at (a .es .now) (l .i) j ∷ [])
           (l .inv .3) (c .before .put-two .ensures),
     )
 
-mul-end : tie.Need-mul-end Inv-loop μ-loop
-mul-end c = search needs
-
-add-end : tie.Need-add-end Inv-loop μ-loop
-add-end c = search needs
-
-array-share-prefix-m : tie.Need-array-share-prefix-m Inv-loop μ-loop
-array-share-prefix-m c = search needs
-
 slice-aggregate-challenge : tie.Need-slice-aggregate-challenge Inv-loop μ-loop
-slice-aggregate-challenge c =
-    let l = c .before .before .loop in
-    sym (length-take-le (6 + 8 * l .i) (l .m) (omega arith))
+slice-aggregate-challenge c = search needs
+
+mul-challenge : tie.Need-mul-challenge Inv-loop μ-loop
+mul-challenge c = search needs
+
+add-challenge : tie.Need-add-challenge Inv-loop μ-loop
+add-challenge c = search needs
 
 challenge-requires : tie.Need-challenge-requires Inv-loop μ-loop
 challenge-requires c κs =
-    let l = c .before .before .loop in
     let s = c .before .before .before .before .before .before .before in
-    (order-positive _ _ (s .pre .0) (s .pre .1), omega (arith, length-take-le (6 + 8 * l .i) (l .m) (omega arith)))
+    (order-positive _ (s .pre .1) (s .pre .0), omega arith, omega arith)
 
 returns : tie.Need-returns Inv-loop μ-loop
-unfolding challengeOf coefficientMessage
+unfolding coefficientMessage
 returns c =
     let l = c .before .before .before .loop in
     let h = c .before .before .before .before .before .before in
     let s = h .before .before in
     let a = s .args in
     let f = words (a .vs .now) (a .es .now) in
-    let e : l .i ≡ a .rd .n = omega arith in
-    let t = behind-byte 0x50 (a .rd) (a .d) (6 + 8 * l .i) (bytesOver f (members (l .i))) _ (h .head .ensures) (omega (arith, h .head .kept .0))
-    (a .k) (l .inv .3) (omega (arith, members-length f 8 (λ j. refl) (l .i))) in
-    c .challenge .ensures
-    ∙ (λ j. exponentOf (s .pre .1 j) (hash (t j)))
-    ∙ ap (λ (n : ℕ). challengeOf (a .rd) (message 0x50 (a .rd) (a .d) (a .k ∷ bytesOver f (members n)))) e
+    let end : l .i ≡ a .rd .n = omega arith in
+    challenge-is (a .rd) (s .pre .1) (c .challenge .ensures)
+    (over-byte f 8 (λ j. refl) 0x50 (a .rd) (a .d) (a .rd .n) _ (h .head .ensures) end (a .k) (omega (arith, h .head .kept .0)) (l .inv .3))
 
 pub coefficient-spec : {M : Type 1} → statement M
 coefficient-spec =
@@ -155,9 +143,8 @@ coefficient-spec =
     add-i
     loop-less
     loop-again
-    mul-end
-    add-end
-    array-share-prefix-m
     slice-aggregate-challenge
+    mul-challenge
+    add-challenge
     challenge-requires
     returns)

@@ -1,18 +1,16 @@
 -- `share_challenge` meets its contract: the member's byte and five words stand behind the head, and fill the buffer.
-use mathlib.Core.Path.{_≡_, refl, sym, ap, _∙_}
+use mathlib.Core.Path.{_≡_, refl, ap, _∙_}
 use mathlib.Core.List.{List, [], _∷_, _++_}
 use Prim.Native.Nat.{ℕ}
 use native.Mathlib.Omega.{arith}
 use borrow.Author.Needs.{needs}
 use lib.ListN.{length, set, length-set}
-use lib.Seq.{take-all}
 use Rattle.words.specs.Bytes.{wordsBytes, putAt}
 use Rattle.words.proofs.Bytes.{words-length}
-use Rattle.sha256.specs.Hash.{hash}
 use Rattle.sharing.proofs.Rounds.{ready}
-use Rattle.posted.specs.Message.{exponentOf, challengeOf, shareMessage}
+use Rattle.posted.specs.Message.{shareMessage}
 use Rattle.posted.proofs.Buffers.{put-words, words-one, behind-byte}
-use Rattle.posted.proofs.Digests.{order-positive}
+use Rattle.posted.proofs.Digests.{order-positive, challenge-is}
 use Rattle.posted.proofs.message.share_challenge.Statement.{statement}
 use Rattle.posted.proofs.message.share_challenge.Tie as tie
 
@@ -46,10 +44,10 @@ slice-aggregate-challenge c = search needs
 challenge-requires : tie.Need-challenge-requires
 challenge-requires c κs =
     let s = c .before .before .before .before .before .before .before .before .before .before in
-    (order-positive _ _ (s .pre .0) (s .pre .1), omega arith)
+    (order-positive _ (s .pre .1) (s .pre .0), omega arith, omega arith)
 
 returns : tie.Need-returns
-unfolding challengeOf shareMessage
+unfolding shareMessage
 returns c =
     let w = c .before .before .before in
     let q = w .before .before .before in
@@ -68,8 +66,7 @@ returns c =
     behind-byte 0x53 (a .rd) (a .d) 26 (wordsBytes (ws ++ us)) _ (h .head .ensures) (omega arith) (a .i) p
     (omega (arith, words-length (ws ++ us)))
     in
-    c .challenge .ensures
-    ∙ (λ j. exponentOf (s .pre .1 j) (hash ((sym (take-all 26 (w .put-word .last .0) (omega arith)) ∙ t) j)))
+    challenge-is (a .rd) (s .pre .1) (c .challenge .ensures) t
 
 pub share-challenge-spec : {M : Type 1} → statement M
 share-challenge-spec =
