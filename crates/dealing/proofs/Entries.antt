@@ -1,9 +1,9 @@
--- Arrays of the members' figures: the figure of a member, arrays that a loop fills, and messages told by such arrays.
-use mathlib.Core.Path.{_≡_, refl, sym, ap, _∙_}
+-- Arrays of the members' figures: the figure of a member, and messages told by such arrays.
+use mathlib.Core.Path.{_≡_, sym, ap, _∙_}
 use mathlib.Core.List.{List, [], _∷_}
-use Prim.Native.Nat.{ℕ, _+_, _-_, _≤_, _<_}
+use Prim.Native.Nat.{ℕ, _-_, _≤_}
 use native.Mathlib.Omega.{arith}
-use lib.ListN.{length, getD, take, set, length-set}
+use lib.ListN.{length, getD, take}
 use lib.Seq.{getD-take}
 use Rattle.words.specs.Lists.{map, upFrom}
 use Rattle.words.proofs.Lists.{All-each, map-length, map-at, map-same, up-length}
@@ -12,7 +12,6 @@ use Rattle.sharing.specs.declared.Round.{Round}
 use Rattle.sharing.proofs.Loops.{member-at}
 use Rattle.posted.specs.Records.{entry}
 use Rattle.posted.specs.Message.{message, challengeOf, dealingMessage, coefficientMessage, checkPolynomial}
-use Rattle.posted.proofs.Filled.{filled-next}
 use Rattle.posted.proofs.Members.{each-members}
 use Rattle.posted.proofs.Challenges.{bytes-same, message-same}
 
@@ -20,12 +19,12 @@ use Rattle.posted.proofs.Challenges.{bytes-same, message-same}
 pub figures-length : (f : ℕ → ℕ) (n : ℕ) {l : List ℕ} → l ≡ map f (members n) → length l ≡ n
 figures-length f n e = ap length e ∙ map-length f (members n) ∙ up-length 1 n
 
-pub record Figures (f : ℕ → ℕ) (n : ℕ) (l : List ℕ) : Type 0 where
+pub record HoldsEach (f : ℕ → ℕ) (n : ℕ) (l : List ℕ) : Type 0 where
   pub each : (i : ℕ) → 1 ≤ i → i ≤ n → entry l i ≡ f i
 
-pub figures : (f : ℕ → ℕ) (n : ℕ) (l : List ℕ) → take n l ≡ map f (members n) → Figures f n l
+pub holds-each : (f : ℕ → ℕ) (n : ℕ) (l : List ℕ) → take n l ≡ map f (members n) → HoldsEach f n l
 unfolding entry
-figures f n l e =
+holds-each f n l e =
     record {
       each = λ i h k.
           sym (getD-take n l (i - 1) 0 (omega arith))
@@ -34,27 +33,9 @@ figures f n l e =
           ∙ ap f (member-at n i h k);
     }
 
--- ---- an array of 31 places, of which the first k hold f at the first k members
-pub record HoldsFirst (f : ℕ → ℕ) (k : ℕ) (l : List ℕ) : Type 0 where
-  pub size : length l ≡ 31
-  pub first : take k l ≡ map f (members k)
-
-module _ (f : ℕ → ℕ) where
-  pub holds-none : (l : List ℕ) → length l ≡ 31 → HoldsFirst f 0 l
-  holds-none l e = record { size = e; first = refl }
-
-  module _ (k : ℕ) {l : List ℕ} (H : HoldsFirst f k l) where
-    pub holds-next : {x : ℕ} → k < 31 → x ≡ f (k + 1) → HoldsFirst f (k + 1) (set l k x)
-    holds-next {x} h e =
-        let next : k + 1 ≡ 1 + k = omega arith in
-        record { size = simp length-set (H .size); first = filled-next f 1 k x l (omega (arith, H .size)) (H .first) (e ∙ ap f next) }
-
-    pub holds-all : {n : ℕ} → k ≡ n → take n l ≡ map f (members n)
-    holds-all e = rw (← e) (H .first)
-
 -- ---- messages over the members' figures
-module _ (R : Round) (d : ℕ) {v Y : ℕ → ℕ} {vs es : List ℕ} (p : Figures v (R .n) vs) (q : Figures Y (R .n) es) where
-  pub dealing-same : {a b : ℕ → ℕ} {fs gs : List ℕ} → Figures a (R .n) fs → Figures b (R .n) gs
+module _ (R : Round) (d : ℕ) {v Y : ℕ → ℕ} {vs es : List ℕ} (p : HoldsEach v (R .n) vs) (q : HoldsEach Y (R .n) es) where
+  pub dealing-same : {a b : ℕ → ℕ} {fs gs : List ℕ} → HoldsEach a (R .n) fs → HoldsEach b (R .n) gs
       → challengeOf R (dealingMessage R d (entry vs) (entry es) (entry fs) (entry gs)) ≡ challengeOf R (dealingMessage R d v Y a b)
   dealing-same {a} {b} r s =
       ap (challengeOf R)

@@ -17,7 +17,7 @@ use Rattle.posted.specs.Message.{challengeOf, dealingMessage}
 use Rattle.equality.specs.Equality.{response}
 use Rattle.dealing.specs.Dealing.{dealtV, dealtY, dealtC, dealtR, dealtLine, writtenDealing}
 use Rattle.posted.proofs.Members.{each-members}
-use Rattle.dealing.proofs.Entries.{Figures, figures, dealing-same}
+use Rattle.dealing.proofs.Entries.{HoldsEach, holds-each, dealing-same}
 
 records-same : (f g : ℕ → Record) (is : List ℕ) → All (λ i. f i ≡ g i) is → recordsBytes f is ≡ recordsBytes g is
 unfolding recordsBytes
@@ -34,15 +34,15 @@ lineOf G d vs es xs ws c i =
     record { w0 = 2; w1 = d; w2 = i; w3 = entry vs i; w4 = entry es i; w5 = response G (entry ws i) c (entry xs i); w6 = c; w7 = 0 }
 
 -- the base g for every member
-bases : (g n : ℕ) → n ≤ 31 → Figures (λ i. g) n (replicate 31 g)
+bases : (g n : ℕ) → n ≤ 31 → HoldsEach (λ i. g) n (replicate 31 g)
 unfolding entry
 bases g n h = record { each = λ i k l. getD-replicate 31 (i - 1) g 0 (omega arith) }
 
 -- powers of bases b and exponents e
-powers-are : (G : Group) (n : ℕ) {b e : ℕ → ℕ} {bs es : List ℕ} → Figures b n bs → Figures e n es
-    → (rs : List ℕ) → take n rs ≡ map (powerOf G bs es) (members n) → Figures (λ i. pow (G .p) (b i) (e i)) n rs
+powers-are : (G : Group) (n : ℕ) {b e : ℕ → ℕ} {bs es : List ℕ} → HoldsEach b n bs → HoldsEach e n es
+    → (rs : List ℕ) → take n rs ≡ map (powerOf G bs es) (members n) → HoldsEach (λ i. pow (G .p) (b i) (e i)) n rs
 powers-are G n {b} {e} {bs} {es} p q rs r =
-    record { each = λ i h l. figures (powerOf G bs es) n rs r .each i h l ∙ (λ j. pow (G .p) (p .each i h l j) (q .each i h l j)) }
+    record { each = λ i h l. holds-each (powerOf G bs es) n rs r .each i h l ∙ (λ j. pow (G .p) (p .each i h l j) (q .each i h l j)) }
 
 module _ (R : Round) {G : Group} (same : G ≡ groupIn R) (few : R .n ≤ 31) (d : ℕ) (ys cs ws xs vs es fs hs : List ℕ) where
   abbrev n : ℕ
@@ -59,7 +59,7 @@ module _ (R : Round) {G : Group} (same : G ≡ groupIn R) (few : R .n ≤ 31) (d
   abbrev linesAt : Group → ℕ → List ℕ
   linesAt H c = recordsBytes (dealtLine H d ys cs ws c) (members n)
 
-  given : (l : List ℕ) → Figures (entry l) n l
+  given : (l : List ℕ) → HoldsEach (entry l) n l
   given l = record { each = λ i h k. refl }
 
   -- of a polynomial's values xs, commitments vs, encrypted shares es and announcements fs and hs
@@ -70,7 +70,7 @@ module _ (R : Round) {G : Group} (same : G ≡ groupIn R) (few : R .n ≤ 31) (d
       → recordsBytes (lineOf G d vs es xs ws c) (members m) ≡ writtenDealing R d ys cs ws
   unfolding dealtV dealtY dealtC dealtR dealtLine writtenDealing
   lines-are {m} {c} all x v e f h k =
-      let value = figures (valueAt (G .q) cs) n xs x in
+      let value = holds-each (valueAt (G .q) cs) n xs x in
       let base = bases (G .g .0) n few in
       let v-is = powers-are G n base value vs v in
       let Y-is = powers-are G n (given ys) value es e in

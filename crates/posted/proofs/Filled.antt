@@ -4,9 +4,10 @@ use mathlib.Core.List.{List, [], _∷_, _++_}
 use Prim.Native.Nat.{ℕ, zero, suc, _+_, _<_}
 use native.Mathlib.Numerals.{add-one}
 use native.Mathlib.Omega.{arith}
-use lib.ListN.{length, take, set}
+use lib.ListN.{length, take, set, length-set}
 use lib.Seq.{take-suc-set}
 use Rattle.words.specs.Lists.{map, upFrom}
+use Rattle.sharing.specs.Round.{members}
 
 -- a run of numbers by its last
 pub up-last : (i n : ℕ) → upFrom i (n + 1) ≡ upFrom i n ++ ((i + n) ∷ [])
@@ -28,3 +29,21 @@ filled-next f i k x l h t e =
     rw (add-one k) (take-suc-set l k x h)
     ∙ (λ j. t j ++ (e j ∷ []))
     ∙ (rw (up-last i k, map-append))
+
+-- ---- an array of 31 places, of which the first k hold f at the first k members
+pub record HoldsFirst (f : ℕ → ℕ) (k : ℕ) (l : List ℕ) : Type 0 where
+  pub size : length l ≡ 31
+  pub first : take k l ≡ map f (members k)
+
+module _ (f : ℕ → ℕ) where
+  pub holds-none : (l : List ℕ) → length l ≡ 31 → HoldsFirst f 0 l
+  holds-none l e = record { size = e; first = refl }
+
+  module _ (k : ℕ) {l : List ℕ} (H : HoldsFirst f k l) where
+    pub holds-next : {x : ℕ} → k < 31 → x ≡ f (k + 1) → HoldsFirst f (k + 1) (set l k x)
+    holds-next {x} h e =
+        let next : k + 1 ≡ 1 + k = omega arith in
+        record { size = simp length-set (H .size); first = filled-next f 1 k x l (omega (arith, H .size)) (H .first) (e ∙ ap f next) }
+
+    pub holds-all : {n : ℕ} → k ≡ n → take n l ≡ map f (members n)
+    holds-all e = rw (← e) (H .first)

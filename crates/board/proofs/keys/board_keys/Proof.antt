@@ -6,15 +6,14 @@ use Prim.Native.Nat.{ℕ, _+_, _-_, _*_, _<_, _≤_}
 use native.Mathlib.Omega.{arith}
 use borrow.Author.Needs.{needs}
 use borrow.Author.Tests.{ltb-true}
-use lib.ListN.{length, take}
-use Rattle.words.specs.Lists.{map, all}
+use Rattle.words.specs.Lists.{all}
 use Rattle.words.specs.Bytes.{wordAt}
 use Rattle.sharing.specs.Round.{members}
 use Rattle.posted.proofs.Members.{members-exactly}
-use Rattle.posted.proofs.Filled.{filled-next}
+use Rattle.posted.proofs.Filled.{HoldsFirst, holds-none, holds-next, holds-all}
+use Rattle.posted.proofs.Columns.{word-in}
 use Rattle.board.specs.Search.{recordsIn}
 use Rattle.board.specs.Board.{keyRecord, hasKey, keyIn}
-use Rattle.board.proofs.Matches.{word-in}
 use Rattle.board.proofs.keys.board_keys.Statement.{statement}
 use Rattle.board.proofs.keys.board_keys.Tie as tie
 
@@ -22,13 +21,13 @@ key-inside : (b : List ℕ) (n i : ℕ) → all (hasKey b) (members n) ≡ true 
 key-inside b n i e h = ltb-true _ _ (members-exactly (hasKey b) n .0 e (i + 1) (omega arith) (omega arith))
 
 abbrev Inv-loop : tie.InvT-loop
-Inv-loop b n ys₀ i₀ ys i = (i ≤ n) × (length ys ≡ 31) × (take i ys ≡ map (keyIn b) (members i))
+Inv-loop b n ys₀ i₀ ys i = (i ≤ n) × HoldsFirst (keyIn b) i ys
 
 abbrev μ-loop : tie.MeasureT-loop
 μ-loop b n ys₀ i₀ ys i = n - i
 
 loop-holds : tie.Need-loop-holds Inv-loop μ-loop
-loop-holds c = (search needs, refl, refl)
+loop-holds c = (search needs, holds-none _ _ refl)
 
 cast-at : tie.Need-cast-at Inv-loop μ-loop
 cast-at c = search needs
@@ -71,21 +70,15 @@ unfolding keyIn
 loop-again c =
     let l = c .before .before .before .loop in
     let b = c .before .before .before .before .before .args .b .now in
-    let m : l .i + 1 ≡ 1 + l .i = omega arith in (
-      search needs,
-      search needs,
-      filled-next (keyIn b) 1 (l .i) _ (l .ys) (omega arith) (l .inv .2)
-          (c .word-at .ensures
-          ∙ ap (λ (k : ℕ). wordAt b (32 * k + 12)) (c .before .find-key .ensures)
-          ∙ word-in b (keyRecord b (l .i + 1)) 3 (omega arith)
-          ∙ ap (keyIn b) m),
-    )
+    let key = c .word-at .ensures
+    ∙ ap (λ (k : ℕ). wordAt b (32 * k + 12)) (c .before .find-key .ensures) ∙ word-in b (keyRecord b (l .i + 1)) 3 (omega arith) in
+    (search needs, holds-next _ (l .i) (l .inv .1) (omega arith) key)
 
 returns : tie.Need-returns Inv-loop μ-loop
 returns c =
     let l = c .before .loop in
-    let e : l .i ≡ c .before .before .before .args .n = omega arith in
-    rw (← e) (l .inv .2)
+    let end : l .i ≡ c .before .before .before .args .n = omega arith in
+    holds-all _ (l .i) (l .inv .1) end
 
 pub board-keys-spec : {M : Type 1} → statement M
 board-keys-spec =

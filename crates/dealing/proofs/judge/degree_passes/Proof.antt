@@ -9,7 +9,7 @@ use Rattle.sharing.proofs.Rounds.{ready}
 use Rattle.sharing.specs.Answer.{degreeProduct}
 use Rattle.dealing.specs.Dealing.{vIn, YIn, vsIn}
 use Rattle.posted.proofs.Challenges.{check-polynomial}
-use Rattle.dealing.proofs.Entries.{figures-length, figures, polynomial-same}
+use Rattle.dealing.proofs.Entries.{figures-length, holds-each, polynomial-same}
 use Rattle.dealing.proofs.Sizes.{group-proper, members-few}
 use Rattle.dealing.proofs.judge.degree_passes.Statement.{statement}
 use Rattle.dealing.proofs.judge.degree_passes.Tie as tie
@@ -77,7 +77,7 @@ returns c =
     let s = v .before .before .before in
     let a = s .args in
     let b = a .lines .now in
-    let same = polynomial-same (a .rd) (a .d) (figures (vIn b) _ _ (v .column .ensures)) (figures (YIn b) _ _ (e .column2 .ensures)) in
+    let same = polynomial-same (a .rd) (a .d) (holds-each (vIn b) _ _ (v .column .ensures)) (holds-each (YIn b) _ _ (e .column2 .ensures)) in
     let product = d .degree-product .ensures ∙ (λ j. degreeProduct (a .gr) (a .rd .n) (v .column .ensures j) ((p .check-polynomial .ensures ∙ same) j)) in
     ap (λ (x : ℕ). eqb x 1) product
 

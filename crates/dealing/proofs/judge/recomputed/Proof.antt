@@ -11,9 +11,10 @@ use Rattle.dealing.specs.Dealing.{vIn, YIn, rIn, cIn, recomputed}
 use Rattle.equality.specs.Equality.{announced}
 use Rattle.posted.specs.Message.{challengeOf, dealingMessage}
 use Rattle.posted.specs.Records.{entry}
+use Rattle.posted.proofs.Filled.{HoldsFirst, holds-none, holds-next, holds-all}
 use Rattle.posted.proofs.Members.{entry-at}
 use Rattle.posted.proofs.Columns.{record-of}
-use Rattle.dealing.proofs.Entries.{figures, HoldsFirst, holds-none, holds-next, holds-all, dealing-same}
+use Rattle.dealing.proofs.Entries.{holds-each, dealing-same}
 use Rattle.dealing.proofs.Sizes.{group-proper}
 use Rattle.dealing.proofs.judge.recomputed.Statement.{statement}
 use Rattle.dealing.proofs.judge.recomputed.Tie as tie
@@ -128,8 +129,8 @@ returns c =
     let l = o .loop in
     let end : l .i ≡ R .n = omega (arith, t .loop-test .left) in
     c .dealing-challenge .ensures
-    ∙ dealing-same R (a .d) (figures (vIn b) _ _ (v .column .ensures)) (figures (YIn b) _ _ (e .column2 .ensures))
-    (figures _ _ _ (holds-all _ (l .i) (l .inv .2) end)) (figures _ _ _ (holds-all _ (l .i) (l .inv .3) end))
+    ∙ dealing-same R (a .d) (holds-each (vIn b) _ _ (v .column .ensures)) (holds-each (YIn b) _ _ (e .column2 .ensures))
+    (holds-each _ _ _ (holds-all _ (l .i) (l .inv .2) end)) (holds-each _ _ _ (holds-all _ (l .i) (l .inv .3) end))
     ∙ (λ j. challengeOf R (dealingMessage R (a .d) (vIn b) (YIn b) (firstOf (s .pre .1 j) b) (secondOf (s .pre .1 j) (a .ys .now) b)))
 
 pub recomputed-spec : {M : Type 1} → statement M

@@ -5,7 +5,7 @@ use native.Mathlib.Omega.{arith}
 use borrow.Author.Needs.{needs}
 use Rattle.group.specs.Power.{pow}
 use Rattle.posted.proofs.Members.{entry-at}
-use Rattle.dealing.proofs.Entries.{HoldsFirst, holds-none, holds-next, holds-all}
+use Rattle.posted.proofs.Filled.{HoldsFirst, holds-none, holds-next, holds-all}
 use Rattle.dealt.proofs.Arrays.{powerOf}
 use Rattle.dealt.proofs.writer.powers.Statement.{statement}
 use Rattle.dealt.proofs.writer.powers.Tie as tie

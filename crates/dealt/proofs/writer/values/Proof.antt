@@ -4,7 +4,7 @@ use Prim.Native.Nat.{_-_, _≤_}
 use native.Mathlib.Omega.{arith}
 use borrow.Author.Needs.{needs}
 use Rattle.field.specs.Polynomial.{valueAt}
-use Rattle.dealing.proofs.Entries.{HoldsFirst, holds-none, holds-next, holds-all}
+use Rattle.posted.proofs.Filled.{HoldsFirst, holds-none, holds-next, holds-all}
 use Rattle.dealt.proofs.writer.values.Statement.{statement}
 use Rattle.dealt.proofs.writer.values.Tie as tie
 

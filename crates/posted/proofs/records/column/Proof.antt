@@ -3,23 +3,20 @@ use mathlib.Core.Path.{_≡_, refl, _∙_}
 use Prim.Native.Nat.{_-_, _≤_}
 use native.Mathlib.Omega.{arith}
 use borrow.Author.Needs.{needs}
-use lib.ListN.{length, take}
-use Rattle.words.specs.Lists.{map}
-use Rattle.sharing.specs.Round.{members}
 use Rattle.posted.specs.Records.{wordOf}
-use Rattle.posted.proofs.Filled.{filled-next}
+use Rattle.posted.proofs.Filled.{HoldsFirst, holds-none, holds-next, holds-all}
 use Rattle.posted.proofs.Columns.{word-of}
 use Rattle.posted.proofs.records.column.Statement.{statement}
 use Rattle.posted.proofs.records.column.Tie as tie
 
 abbrev Inv-loop : tie.InvT-loop
-Inv-loop b n k ws₀ i₀ ws i = (i ≤ n) × (length ws ≡ 31) × (take i ws ≡ map (wordOf k b) (members i))
+Inv-loop b n k ws₀ i₀ ws i = (i ≤ n) × HoldsFirst (wordOf k b) i ws
 
 abbrev μ-loop : tie.MeasureT-loop
 μ-loop b n k ws₀ i₀ ws i = n - i
 
 loop-holds : tie.Need-loop-holds Inv-loop μ-loop
-loop-holds c = (omega arith, refl, refl)
+loop-holds c = (omega arith, holds-none _ _ refl)
 
 mul-word-at : tie.Need-mul-word-at Inv-loop μ-loop
 mul-word-at c = search needs
@@ -47,19 +44,15 @@ loop-less c = search needs
 
 loop-again : tie.Need-loop-again Inv-loop μ-loop
 loop-again c =
-    let a = c .before .before .before .before .args in
-    let P = c .before .before .before .before .pre in
-    let l = c .before .before .loop in (
-      omega arith,
-      search needs,
-      filled-next (wordOf (a .k) (a .b .now)) 1 (l .i) _ (l .ws) (omega arith) (l .inv .2) (c .word-at .ensures ∙ word-of (a .k) (a .b .now) (l .i) (P .2)),
-    )
+    let s = c .before .before .before .before in
+    let l = c .before .before .loop in
+    (omega arith, holds-next _ (l .i) (l .inv .1) (omega arith) (c .word-at .ensures ∙ word-of (s .args .b .now) (l .i) (s .args .k) (s .pre .2)))
 
 returns : tie.Need-returns Inv-loop μ-loop
 returns c =
     let l = c .before .loop in
-    let e : l .i ≡ c .before .before .before .args .n = omega arith in
-    rw (← e) (l .inv .2)
+    let end : l .i ≡ c .before .before .before .args .n = omega arith in
+    holds-all _ (l .i) (l .inv .1) end
 
 pub column-spec : {M : Type 1} → statement M
 column-spec =
