@@ -6,6 +6,7 @@ ghost use lib.Dec.{eqb};
 ghost use lib.ListN.{length, take, drop};
 ghost use Rattle.words.specs.Lists.{all};
 ghost use Rattle.words.specs.Checks.{refusal, Met};
+ghost use Rattle.words.specs.Bytes.{recordIn};
 ghost use Rattle.group.specs.Element.{isElement, isExponent};
 ghost use Rattle.sharing.specs.Round.{groupIn, roundChecks, members};
 ghost use Rattle.sharing.specs.Answer.{checkOutcomeOf, degreeProduct};
@@ -29,19 +30,21 @@ use sharing::Round;
 use sharing::degree_product;
 use sharing::is_member;
 use sharing::round_group;
-use words::Record;
+use words::read_record;
 
-// Whether a record is a line of the dealer d for member i.
-fn is_line_for(d: u32, i: u32, line: Record) -> bool
-    ensures { λ r. ⌜ r ≡ isLineFor d i line ⌝ }
+// Whether a record is a line of the dealer d for member i. Internal: callers ensure that the bytes are one record.
+fn is_line_for(d: u32, i: u32, line: &[u8]) -> bool
+    requires { ⌜ length (now line) ≡ 32 ⌝ }
+    ensures { λ r. ⌜ r ≡ isLineFor d i (recordIn (now (line .entry))) ⌝ }
 {
-    if !is_line_record(line) {
+    let r = read_record(line);
+    if !is_line_record(r) {
         return false;
     }
-    if line.w1 != d {
+    if r.w1 != d {
         return false;
     }
-    line.w2 == i
+    r.w2 == i
 }
 
 // Whether each member's record is a line of the dealer d for him. Internal: callers ensure that the bytes are n records.
@@ -51,8 +54,9 @@ fn all_lines(d: u32, lines: &[u8], n: u32) -> bool
 {
     let mut i = 0;
     while i < n {
-        let line = record_at(lines, i as usize);
-        if !is_line_for(d, i + 1, line) {
+        let from = 32 * i as usize;
+        let to = from + 32;
+        if !is_line_for(d, i + 1, &lines[from..to]) {
             return false;
         }
         i += 1;

@@ -1,11 +1,15 @@
 -- `all_lines` meets its contract. The loop's invariant: all records are lines exactly if all from index i on are.
 use mathlib.Core.Path.{_≡_, refl, ap, _∙_}
-use Prim.Native.Nat.{_+_, _-_, _≤_}
+use mathlib.Core.Bool.{Bool}
+use mathlib.Core.List.{List}
+use Prim.Native.Nat.{ℕ, _+_, _-_, _*_, _≤_}
 use native.Mathlib.Omega.{arith}
 use borrow.Author.Needs.{needs}
-use lib.ListN.{drop}
+use lib.ListN.{take, drop}
 use Rattle.words.specs.Lists.{all}
+use Rattle.words.specs.Bytes.{recordIn}
 use Rattle.sharing.specs.Round.{members}
+use Rattle.posted.specs.Records.{recordAt}
 use Rattle.dealing.specs.Dealing.{isLineFor, isLineOf}
 use Rattle.posted.proofs.Members.{tests-stop, tests-next, tests-end}
 use Rattle.posted.proofs.Columns.{record-of}
@@ -22,32 +26,43 @@ abbrev μ-loop : tie.MeasureT-loop
 loop-holds : tie.Need-loop-holds Inv-loop μ-loop
 loop-holds c = (search needs, refl)
 
-cast-record-at : tie.Need-cast-record-at Inv-loop μ-loop
-cast-record-at c = search needs
+cast-from : tie.Need-cast-from Inv-loop μ-loop
+cast-from c = search needs
 
-record-at-requires : tie.Need-record-at-requires Inv-loop μ-loop
-record-at-requires c κs = search needs
+mul-from : tie.Need-mul-from Inv-loop μ-loop
+mul-from c = search needs
+
+add-to : tie.Need-add-to Inv-loop μ-loop
+add-to c = search needs
 
 add-is-line-for : tie.Need-add-is-line-for Inv-loop μ-loop
 add-is-line-for c = search needs
 
+sub-is-line-for : tie.Need-sub-is-line-for Inv-loop μ-loop
+sub-is-line-for c = search needs
+
+part-is-line-for-start : tie.Need-part-is-line-for-start Inv-loop μ-loop
+part-is-line-for-start c = search needs
+
+part-is-line-for-end : tie.Need-part-is-line-for-end Inv-loop μ-loop
+part-is-line-for-end c = search needs
+
 is-line-for-requires : tie.Need-is-line-for-requires Inv-loop μ-loop
 is-line-for-requires c κs = search needs
 
--- the answer is that of the member's record
-answer : (t : tie.After-is-line-for Inv-loop μ-loop) → let o = t .before .before .before in let a = o .before .before .args in
-    t .is-line-for .result ≡ isLineOf (a .d) (a .lines .now) (o .loop .i + 1)
-answer t =
-    let r = t .before in
-    let o = r .before .before in
-    let a = o .before .before .args in
-    t .is-line-for .ensures ∙ ap (isLineFor (a .d) (o .loop .i + 1)) (r .record-at .ensures ∙ record-of (a .lines .now) (o .loop .i))
+-- the part that is handed on is the member's record
+line-part : (d i : ℕ) (b : List ℕ) {r : Bool} → r ≡ isLineFor d (i + 1) (recordIn (take (32 * i + 32 - 32 * i) (drop (32 * i) b)))
+    → r ≡ isLineOf d b (i + 1)
+unfolding recordAt
+line-part d i b e =
+    let z : 32 * i + 32 - 32 * i ≡ 32 = omega arith in
+    e ∙ (λ j. isLineFor d (i + 1) (recordIn (take (z j) (drop (32 * i) b)))) ∙ ap (isLineFor d (i + 1)) (record-of b i)
 
 returns : tie.Need-returns Inv-loop μ-loop
 returns c =
     let t = c .before .before .before in
     let l = t .before .loop in
-    tests-stop _ _ (l .i) (l .inv .1) (t .loop-test .taken) (failed (answer (c .before)) (c .if1 .taken))
+    tests-stop _ _ (l .i) (l .inv .1) (t .loop-test .taken) (failed (line-part _ (l .i) _ (c .before .is-line-for .ensures)) (c .if1 .taken))
 
 add-i : tie.Need-add-i Inv-loop μ-loop
 add-i c = search needs
@@ -59,7 +74,7 @@ loop-again : tie.Need-loop-again Inv-loop μ-loop
 loop-again c =
     let t = c .before .before .before in
     let l = t .before .loop in
-    (omega arith, tests-next _ _ (l .i) (l .inv .1) (t .loop-test .taken) (passed (answer (c .before)) (c .if1 .left)))
+    (omega arith, tests-next _ _ (l .i) (l .inv .1) (t .loop-test .taken) (passed (line-part _ (l .i) _ (c .before .is-line-for .ensures)) (c .if1 .left)))
 
 returns-2 : tie.Need-returns-2 Inv-loop μ-loop
 returns-2 c =
@@ -74,9 +89,13 @@ all-lines-spec =
     Inv-loop
     μ-loop
     loop-holds
-    cast-record-at
-    record-at-requires
+    cast-from
+    mul-from
+    add-to
     add-is-line-for
+    sub-is-line-for
+    part-is-line-for-start
+    part-is-line-for-end
     is-line-for-requires
     returns
     add-i
