@@ -66,7 +66,7 @@ fn records_refusal(n: u32, b: &[u8]) -> u32
 }
 
 // What the form of a board is refused by: 3 not whole records or more than 2,048; 4 and 5 record by record. 0 where it is not.
-pub fn form_refusal(n: u32, b: &[u8]) -> u32
+pub(crate) fn form_refusal(n: u32, b: &[u8]) -> u32
     ensures { λ r. ⌜ r ≡ refusal (formChecks n (now (b .entry))) ⌝ }
 {
     if b.len() % 32 != 0 {

@@ -56,14 +56,14 @@ pub fn find_opening(b: &[u8], d: u32) -> usize
 }
 
 // The first line of dealer d, the number of records where there is none.
-pub fn lines_start(b: &[u8], d: u32) -> usize
+pub(crate) fn lines_start(b: &[u8], d: u32) -> usize
     ensures { λ r. ⌜ r ≡ linesStart (now (b .entry)) d ⌝ }
 {
     first_of(b, 2, 1, d, true, 0)
 }
 
 // The record after the lines of dealer d.
-pub fn lines_end(b: &[u8], d: u32) -> usize
+pub(crate) fn lines_end(b: &[u8], d: u32) -> usize
     ensures { λ r. ⌜ r ≡ linesEnd (now (b .entry)) d ⌝ }
 {
     first_of(b, 2, 1, d, false, lines_start(b, d))

@@ -1,18 +1,9 @@
 // Arithmetic on residues modulo m. A product is taken in 64 bits.
 ghost use mathlib.Core.Path.{_≡_};
 ghost use Prim.Native.Nat.{_<_};
-ghost use Rattle.field.specs.Residue.{add, sub, mul, inv};
+ghost use Rattle.field.specs.Residue.{sub, mul, inv};
 ghost use Rattle.field.specs.Prime.{Prime};
 ghost use Rattle.field.specs.Polynomial.{valueAt};
-
-// Internal: callers ensure that both figures are below m. No sum above m is formed.
-pub fn add(m: u32, a: u32, b: u32) -> u32
-    requires { ⌜ (a < m) × (b < m) ⌝ }
-    ensures { λ r. ⌜ r ≡ add m a b ⌝ }
-{
-    let room = m - a;
-    if b < room { a + b } else { b - room }
-}
 
 // Internal: callers ensure that both figures are below m.
 pub fn sub(m: u32, a: u32, b: u32) -> u32

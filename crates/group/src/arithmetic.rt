@@ -1,7 +1,7 @@
 // Arithmetic on exponents, modulo q, and on elements, modulo p: no method takes one where the other is due.
 ghost use mathlib.Core.Path.{_≡_};
 ghost use Prim.Native.Nat.{_<_};
-ghost use Rattle.field.specs.Residue.{add, sub, mul, inv};
+ghost use Rattle.field.specs.Residue.{sub, mul, inv};
 ghost use Rattle.field.specs.Prime.{Prime};
 ghost use Rattle.group.specs.Power.{pow};
 use crate::Element;
@@ -10,7 +10,7 @@ use crate::Group;
 
 // b to the power e modulo p: 1 at exponent 0, and otherwise from the power at half the exponent.
 // Internal: callers ensure that p is above 1.
-pub fn raise(p: u32, b: Element, e: Exponent) -> Element
+pub(crate) fn raise(p: u32, b: Element, e: Exponent) -> Element
     requires { ⌜ 1 < p ⌝ }
     ensures { λ r. ⌜ r .0 ≡ pow p (b .0) (e .0) ⌝ }
 {
@@ -45,14 +45,6 @@ impl Element {
 }
 
 impl Exponent {
-    // Internal: callers ensure that both are below q.
-    pub fn plus(self, gr: Group, e: Exponent) -> Exponent
-        requires { ⌜ (self .0 < gr .q) × (e .0 < gr .q) ⌝ }
-        ensures { λ r. ⌜ r .0 ≡ add (gr .q) (self .0) (e .0) ⌝ }
-    {
-        Exponent(field::add(gr.q, self.0, e.0))
-    }
-
     // Internal: callers ensure that both are below q.
     pub fn minus(self, gr: Group, e: Exponent) -> Exponent
         requires { ⌜ (self .0 < gr .q) × (e .0 < gr .q) ⌝ }

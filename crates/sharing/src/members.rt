@@ -16,7 +16,7 @@ pub fn is_member(n: u32, i: u32) -> bool
     i <= n
 }
 
-pub fn all_members(n: u32, ms: &[u32]) -> bool
+pub(crate) fn all_members(n: u32, ms: &[u32]) -> bool
     ensures { λ r. ⌜ r ≡ all (isMember n) (now (ms .entry)) ⌝ }
 {
     let mut i = 0;
@@ -45,7 +45,7 @@ fn absent_from(x: u32, ms: &[u32], k: usize) -> bool
     true
 }
 
-pub fn none_twice(ms: &[u32]) -> bool
+pub(crate) fn none_twice(ms: &[u32]) -> bool
     ensures { λ r. ⌜ r ≡ noneTwice (now (ms .entry)) ⌝ }
 {
     let mut i = 0;
@@ -59,7 +59,7 @@ pub fn none_twice(ms: &[u32]) -> bool
 }
 
 // Whether the list has t or more members, each from 1 to n and none twice.
-pub fn is_quorum(n: u32, t: u32, ms: &[u32]) -> bool
+pub(crate) fn is_quorum(n: u32, t: u32, ms: &[u32]) -> bool
     ensures { λ r. ⌜ r ≡ leb t (length (now (ms .entry))) && (all (isMember n) (now (ms .entry)) && noneTwice (now (ms .entry))) ⌝ }
 {
     if ms.len() < t as usize {

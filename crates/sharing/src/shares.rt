@@ -86,7 +86,7 @@ pub fn recovered_from(gr: Group, ms: &[u32], ss: &[u32]) -> Element
 
 // The same product of the first t figures, those of the members 1 to t.
 // Internal: callers ensure that the group is proper, that t is at most 31 and below q and that there are at least t figures.
-pub fn recovered_from_first(gr: Group, t: u32, vs: &[u32]) -> Element
+pub(crate) fn recovered_from_first(gr: Group, t: u32, vs: &[u32]) -> Element
     requires { ⌜ (Proper gr) × (t ≤ 31) × (t < gr .q) × (t ≤ length (now vs)) ⌝ }
     ensures { λ r. ⌜ r .0 ≡ recovered gr (members t) (take t (now (vs .entry))) ⌝ }
 {

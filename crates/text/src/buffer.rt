@@ -3,7 +3,7 @@ ghost use Rattle.text.specs.Text.{digits, figure};
 ghost use Rattle.text.specs.Buffer.{Room, Written};
 
 // Writes the bytes of `text` from `at` on. Internal: callers ensure room for them.
-pub fn put_bytes(out: &mut [u8], at: usize, text: &[u8]) -> usize
+pub(crate) fn put_bytes(out: &mut [u8], at: usize, text: &[u8]) -> usize
     requires { ⌜ Room at (now text) (now out) ⌝ }
     ensures { λ r. ⌜ Written at (now (text .entry)) (now (out .entry)) (now (out .exit)) r ⌝ }
 {
@@ -30,7 +30,7 @@ fn put_digits(out: &mut [u8], at: usize, v: u32) -> usize
 }
 
 // Writes a space and the figure v from `at` on. Internal: callers ensure room for them.
-pub fn put_figure(out: &mut [u8], at: usize, v: u32) -> usize
+pub(crate) fn put_figure(out: &mut [u8], at: usize, v: u32) -> usize
     requires { ⌜ Room at (figure v) (now out) ⌝ }
     ensures { λ r. ⌜ Written at (figure v) (now (out .entry)) (now (out .exit)) r ⌝ }
 {

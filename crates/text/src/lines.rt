@@ -20,7 +20,7 @@ fn put_worded(out: &mut [u8], at: usize, word: &[u8], v: u32) -> usize
 }
 
 // Writes a line of a word and a figure from `at` on. Internal: callers ensure room for it.
-pub fn put_line(out: &mut [u8], at: usize, word: &[u8], v: u32) -> usize
+pub(crate) fn put_line(out: &mut [u8], at: usize, word: &[u8], v: u32) -> usize
     requires { ⌜ Room at (now word ++ (figure v ++ newLine)) (now out) ⌝ }
     ensures { λ r. ⌜ Written at (now (word .entry) ++ (figure v ++ newLine)) (now (out .entry)) (now (out .exit)) r ⌝ }
 {
@@ -53,7 +53,7 @@ fn put_verdict(out: &mut [u8], at: usize, v: Verdict) -> usize
 }
 
 // Writes the line of the dealer d from `at` on. Internal: callers ensure room for it.
-pub fn put_dealer(out: &mut [u8], at: usize, d: u32, v: Verdict) -> usize
+pub(crate) fn put_dealer(out: &mut [u8], at: usize, d: u32, v: Verdict) -> usize
     requires { ⌜ Room at (dealerLine d v) (now out) ⌝ }
     ensures { λ r. ⌜ Written at (dealerLine d v) (now (out .entry)) (now (out .exit)) r ⌝ }
 {
@@ -64,7 +64,7 @@ pub fn put_dealer(out: &mut [u8], at: usize, d: u32, v: Verdict) -> usize
 }
 
 // Writes the line of the round from `at` on. Internal: callers ensure room for it.
-pub fn put_round(out: &mut [u8], at: usize, rd: Round) -> usize
+pub(crate) fn put_round(out: &mut [u8], at: usize, rd: Round) -> usize
     requires { ⌜ Room at (roundLine rd) (now out) ⌝ }
     ensures { λ r. ⌜ Written at (roundLine rd) (now (out .entry)) (now (out .exit)) r ⌝ }
 {
@@ -75,7 +75,7 @@ pub fn put_round(out: &mut [u8], at: usize, rd: Round) -> usize
 }
 
 // Writes the last line from `at` on. Internal: callers ensure room for it.
-pub fn put_draw(out: &mut [u8], at: usize, draw: ElementAnswer) -> usize
+pub(crate) fn put_draw(out: &mut [u8], at: usize, draw: ElementAnswer) -> usize
     requires { ⌜ Room at (drawLine (elementOutcomeOf draw)) (now out) ⌝ }
     ensures { λ r. ⌜ Written at (drawLine (elementOutcomeOf draw)) (now (out .entry)) (now (out .exit)) r ⌝ }
 {

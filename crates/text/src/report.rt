@@ -30,7 +30,7 @@ fn put_dealers(out: &mut [u8], at: usize, n: u32, seats: [Seat; 31]) -> usize
 }
 
 // Writes the report at the start of `out`, and answers its length. Internal: callers ensure that n is at most 31, and room for it.
-pub fn put_report(out: &mut [u8], rd: Round, judged: Judged) -> usize
+pub(crate) fn put_report(out: &mut [u8], rd: Round, judged: Judged) -> usize
     requires { ⌜ (rd .n ≤ 31) × (Room 0 (reportFrom rd judged) (now out)) ⌝ }
     ensures { λ r. ⌜ Written 0 (reportFrom rd judged) (now (out .entry)) (now (out .exit)) r ⌝ }
 {

@@ -44,14 +44,14 @@ fn build(base: &[u8], size: usize, changes: &[u8], board: &mut [u8]) -> usize {
 }
 
 // Makes the payload the base.
-pub fn load(case: Record, space: &[u8], base: &mut [u8; 65568]) {
+pub(crate) fn load(case: Record, space: &[u8], base: &mut [u8; 65568]) {
     let count = case.w7 as usize;
     print::length(b"base ", count);
     copy(space, 0, count, base, 0);
 }
 
 // Calls the operation of a case with its board. Argument 6 is the length of the set, which the payload has before the changes.
-pub fn run(case: Record, space: &[u8], base: &[u8]) {
+pub(crate) fn run(case: Record, space: &[u8], base: &[u8]) {
     if case.w7 < case.w6 {
         return print::no_case();
     }

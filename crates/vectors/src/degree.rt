@@ -4,7 +4,7 @@ use crate::payload;
 use crate::print;
 use words::Record;
 
-pub fn run(case: Record, space: &[u8]) {
+pub(crate) fn run(case: Record, space: &[u8]) {
     let vs = payload::list(space, 0);
     let cs = payload::list(space, case.w4 as usize);
     let answer = sharing::degree_check(

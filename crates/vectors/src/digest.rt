@@ -27,7 +27,7 @@ fn fill(case: Record, space: &mut [u8]) -> usize {
     end
 }
 
-pub fn run(case: Record, space: &mut [u8]) {
+pub(crate) fn run(case: Record, space: &mut [u8]) {
     let size = fill(case, space);
     let answer = sha256::digest(payload::part(space, 0, size));
     print::digest(b"digest ", answer);

@@ -8,7 +8,7 @@ fn print_text(out: &[u8; 1024], size: usize) {
     print::text(payload::part(&out[..], 0, size));
 }
 
-pub fn run(set: &[u8], board: &[u8]) {
+pub(crate) fn run(set: &[u8], board: &[u8]) {
     let mut out = [0u8; 1024];
     let size = text::draw_text(set, board, &mut out);
     print_text(&out, size);

@@ -7,7 +7,7 @@ use group::Element;
 use group::Exponent;
 use words::Record;
 
-pub fn run(case: Record, space: &[u8]) {
+pub(crate) fn run(case: Record, space: &[u8]) {
     let figures = payload::figures(space);
     let proof = Equality {
         b1: Element(figures.w0),

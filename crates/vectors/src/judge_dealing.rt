@@ -4,7 +4,7 @@ use crate::payload;
 use crate::print;
 use words::Record;
 
-pub fn run(case: Record, space: &[u8]) {
+pub(crate) fn run(case: Record, space: &[u8]) {
     let ys = payload::list(space, 0);
     let keys = payload::first(&ys, case.w5);
     let lines = payload::part(space, 4 * case.w5 as usize, case.w6 as usize);

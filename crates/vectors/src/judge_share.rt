@@ -5,7 +5,7 @@ use crate::print;
 use group::Element;
 use words::Record;
 
-pub fn run(case: Record, space: &[u8]) {
+pub(crate) fn run(case: Record, space: &[u8]) {
     let figures = payload::figures(space);
     let y = Element(figures.w0);
     let e = Element(figures.w1);

@@ -4,7 +4,7 @@ use crate::print;
 use group::Exponent;
 use words::Record;
 
-pub fn run(case: Record, space: &[u8]) {
+pub(crate) fn run(case: Record, space: &[u8]) {
     let vs = payload::list(space, 0);
     let commitments = payload::first(&vs, case.w5);
     let answer = sharing::opening(payload::round(case), commitments, Exponent(case.w4));

@@ -3,7 +3,7 @@ use sharing::Round;
 use words::Record;
 
 // The round of an operation whose first arguments are group, n and t.
-pub fn round(case: Record) -> Round {
+pub(crate) fn round(case: Record) -> Round {
     Round {
         group: case.w1,
         n: case.w2,
@@ -12,7 +12,7 @@ pub fn round(case: Record) -> Round {
 }
 
 // The first eight words of a payload. They are 0 where the space ends before.
-pub fn figures(space: &[u8]) -> Record {
+pub(crate) fn figures(space: &[u8]) -> Record {
     let zeros = [0u8; 32];
     if space.len() < 32 {
         return words::read_record(&zeros);
@@ -21,7 +21,7 @@ pub fn figures(space: &[u8]) -> Record {
 }
 
 // The word that begins at byte k. It is 0 where the space ends before.
-pub fn word_from(space: &[u8], k: usize) -> u32 {
+pub(crate) fn word_from(space: &[u8], k: usize) -> u32 {
     if space.len() < 4 {
         return 0;
     }
@@ -32,7 +32,7 @@ pub fn word_from(space: &[u8], k: usize) -> u32 {
 }
 
 // The words of a payload from the word number `from` on, from 0. A case's lists have at most 64.
-pub fn list(space: &[u8], from: usize) -> [u32; 64] {
+pub(crate) fn list(space: &[u8], from: usize) -> [u32; 64] {
     let mut ws = [0u32; 64];
     let mut k = from;
     let mut i = 0;
@@ -48,7 +48,7 @@ pub fn list(space: &[u8], from: usize) -> [u32; 64] {
 }
 
 // The first `count` words of a list, and all where there are fewer.
-pub fn first(ws: &[u32], count: u32) -> &[u32] {
+pub(crate) fn first(ws: &[u32], count: u32) -> &[u32] {
     let end = count as usize;
     if end > ws.len() {
         return ws;
@@ -57,7 +57,7 @@ pub fn first(ws: &[u32], count: u32) -> &[u32] {
 }
 
 // The bytes of a space from `from` on, `count` of them, and none where it ends before.
-pub fn part(space: &[u8], from: usize, count: usize) -> &[u8] {
+pub(crate) fn part(space: &[u8], from: usize, count: usize) -> &[u8] {
     if space.len() < count {
         return &space[0..0];
     }

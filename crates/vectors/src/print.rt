@@ -6,21 +6,21 @@ use sharing::CheckAnswer;
 use words::Record;
 
 // A case that cannot be read or called.
-pub fn no_case() {
+pub(crate) fn no_case() {
     text(b"no case\n");
 }
 
-pub fn text(t: &[u8]) {
+pub(crate) fn text(t: &[u8]) {
     io::write_all(STDOUT_FILENO, t);
 }
 
 // A number, and no end of the line.
-pub fn count(name: &[u8], n: usize) {
+pub(crate) fn count(name: &[u8], n: usize) {
     text(name);
     io::print_decimal(STDOUT_FILENO, n as u64);
 }
 
-pub fn length(name: &[u8], n: usize) {
+pub(crate) fn length(name: &[u8], n: usize) {
     count(name, n);
     text(b"\n");
 }
@@ -38,7 +38,7 @@ fn passed(name: &[u8], answer: CheckAnswer) {
     }
 }
 
-pub fn check(name: &[u8], answer: CheckAnswer) {
+pub(crate) fn check(name: &[u8], answer: CheckAnswer) {
     passed(name, answer);
     text(b"\n");
 }
@@ -56,14 +56,14 @@ fn bytes(b: &[u8]) {
 }
 
 // The answer of a writer, and what its buffer then has in it.
-pub fn written(name: &[u8], answer: CheckAnswer, buffer: &[u8]) {
+pub(crate) fn written(name: &[u8], answer: CheckAnswer, buffer: &[u8]) {
     passed(name, answer);
     text(b" ");
     bytes(buffer);
     text(b"\n");
 }
 
-pub fn element(name: &[u8], answer: ElementAnswer) {
+pub(crate) fn element(name: &[u8], answer: ElementAnswer) {
     text(name);
     match answer {
         ElementAnswer::Value(v) => number(b"", v.0),
@@ -87,7 +87,7 @@ fn words(d: Record) {
     text(b"\n");
 }
 
-pub fn digest(name: &[u8], answer: DigestAnswer) {
+pub(crate) fn digest(name: &[u8], answer: DigestAnswer) {
     text(name);
     match answer {
         DigestAnswer::Value(d) => words(d),

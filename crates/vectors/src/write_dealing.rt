@@ -5,7 +5,7 @@ use crate::payload;
 use crate::print;
 use words::Record;
 
-pub fn run(case: Record, space: &mut [u8]) {
+pub(crate) fn run(case: Record, space: &mut [u8]) {
     let figures = payload::figures(space);
     let size = figures.w0 as usize;
     if space.len() < size {

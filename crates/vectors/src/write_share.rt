@@ -6,7 +6,7 @@ use group::Element;
 use group::Exponent;
 use words::Record;
 
-pub fn run(case: Record, space: &mut [u8]) {
+pub(crate) fn run(case: Record, space: &mut [u8]) {
     let size = case.w6 as usize;
     if space.len() < size {
         return print::no_case();

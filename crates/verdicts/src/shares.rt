@@ -60,7 +60,7 @@ fn with_share(rd: Round, b: &[u8], d: u32, lines: &[u8], i: usize, found: Lowest
 
 // The t lowest members with accepted shares, or all where there are fewer.
 // Internal: callers ensure that these are the n lines of d on a board whose verdicts are reached.
-pub fn lowest_shares(rd: Round, b: &[u8], d: u32, lines: &[u8]) -> Lowest
+pub(crate) fn lowest_shares(rd: Round, b: &[u8], d: u32, lines: &[u8]) -> Lowest
     requires { ⌜ Dealt rd (now b) d (now lines) ⌝ }
     ensures { λ r. ⌜ LowestBy judges rd (now (b .entry)) d r ⌝ }
 {

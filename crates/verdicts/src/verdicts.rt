@@ -69,7 +69,7 @@ fn secret(gr: Group, rd: Round, b: &[u8], d: u32, lines: &[u8]) -> Secret
 
 // The verdict on the dealer d: none without lines, 12 with some but not n, else what the judge of dealings answers.
 // Internal: callers ensure that gr is the round's group, that verdicts are reached, and that ys are the board's keys.
-pub fn verdict(gr: Group, rd: Round, ys: &[u32], b: &[u8], d: u32) -> Verdict
+pub(crate) fn verdict(gr: Group, rd: Round, ys: &[u32], b: &[u8], d: u32) -> Verdict
     requires { ⌜ (groupIn rd ≡ gr) × (Met (boardChecks rd (now b))) × (now ys ≡ keysIn (rd .n) (now b)) ⌝ }
     ensures { λ r. ⌜ r ≡ verdictOn judges rd (now (b .entry)) d ⌝ }
 {
