@@ -78,18 +78,8 @@ module _ (m : ℕ) where
   unfolding sub
   sub-below a b h = mod-lt _ h
 
--- ---- sums and differences of numbers below m, with no remainder to take
+-- ---- differences of numbers below m, with no remainder to take
 module _ (m a b : ℕ) (h : a < m) (k : b < m) where
-  pub add-lt : a + b < m → add m a b ≡ a + b
-  unfolding add
-  add-lt l = mod-eq-of-lt l
-
-  pub add-ge : m ≤ a + b → add m a b ≡ b - (m - a)
-  unfolding add
-  add-ge l =
-      let s : a + b ≡ b - (m - a) + m = omega arith in
-      rw (s, add-mod-right) (mod-eq-of-lt (omega arith))
-
   pub sub-ge : b ≤ a → sub m a b ≡ a - b
   unfolding sub
   sub-ge l =

@@ -14,7 +14,7 @@ use Rattle.group.specs.Power.{pow}
 use Rattle.group.specs.Element.{isElement, isExponent, Proper}
 use Rattle.group.specs.Claims.{GeneratorElement, PowerOfSum, PowerOfProduct, ProductElement, PowerElement}
 use Rattle.group.specs.declared.Group.{Group}
-use Rattle.group.proofs.Powers.{pow-below, one-power, pow-sum, pow-product, pow-multiple, pow-period, product-of-powers}
+use Rattle.group.proofs.Powers.{pow-below, pow-sum, pow-product, pow-multiple, pow-period, product-of-powers}
 
 -- ---- the tests
 pub record ElementFacts (G : Group) (v : ℕ) : Type 0 where
@@ -59,9 +59,6 @@ module _ (G : Group) (P : Proper G) where
   pub root-element : (v : ℕ) → v < G .p → pow (G .p) v (G .q) ≡ 1 → isElement G v ≡ true
   root-element v h e =
       true-element G v (record { positive = root-positive (G .p) (G .q) v (omega (arith, P .prime-q .above-one)) e; low = h; order = e })
-
-  pub one-element : isElement G 1 ≡ true
-  one-element = root-element 1 (P .prime-p .above-one) (one-power (G .p) (G .q) (P .prime-p .above-one))
 
 pub generator-element : GeneratorElement
 generator-element G P b B = root-element G P b (B .low) (B .order)

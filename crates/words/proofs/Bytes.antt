@@ -102,30 +102,6 @@ module _ (k : ℕ) (bs l : List ℕ) (h : k + length bs ≤ length l) where
   unfolding putAt
   put-take = take-at (take k l ++ bs) (drop (k + length bs) l) (k + length bs) front-length
 
-  pub put-before : (j : ℕ) → j + 4 ≤ k → wordAt (putAt k bs l) j ≡ wordAt l j
-  unfolding putAt
-  put-before j s =
-      let t = length-take-le k l (omega arith) in
-      word-front (take k l ++ bs) (drop (k + length bs) l) j (omega (arith, front-length))
-      ∙ word-front (take k l) bs j (omega arith)
-      ∙ word-take k l j s
-
-  pub put-here : (j : ℕ) → j + 4 ≤ length bs → wordAt (putAt k bs l) (k + j) ≡ wordAt bs j
-  unfolding putAt
-  put-here j s =
-      let t : k + j ≡ length (take k l) + j = omega (arith, length-take-le k l (omega arith)) in
-      word-front (take k l ++ bs) (drop (k + length bs) l) (k + j) (omega (arith, front-length))
-      ∙ ap (wordAt (take k l ++ bs)) t
-      ∙ word-append (take k l) bs j
-
-  pub put-after : (j : ℕ) → wordAt (putAt k bs l) (k + length bs + j) ≡ wordAt l (k + length bs + j)
-  unfolding putAt
-  put-after j =
-      let t : k + length bs + j ≡ length (take k l ++ bs) + j = omega (arith, front-length) in
-      ap (wordAt (putAt k bs l)) t
-      ∙ word-append (take k l ++ bs) (drop (k + length bs) l) j
-      ∙ word-drop (k + length bs) l j
-
 -- ---- runs of words
 -- n words from the place k on
 abbrev wordsFrom : ℕ → ℕ → List ℕ → List ℕ
