@@ -1,7 +1,7 @@
 -- The board's records: their form and order, the keys, a dealer's lines and opening, and what is refused before verdicts.
 use mathlib.Core.Bool.{Bool, true, false, not, _&&_}
 use mathlib.Core.List.{List, [], _∷_, _++_}
-use Prim.Native.Nat.{ℕ, zero, suc, _-_, _*_, _%_}
+use Prim.Native.Nat.{ℕ, zero, suc, _+_, _-_, _*_, _%_}
 use lib.ListN.{length, getD, take, drop}
 use lib.Dec.{leb, ltb, eqb}
 use Rattle.words.specs.Choice.{pick}
@@ -108,6 +108,14 @@ linesChecks R d b = roundChecks R ++ (8 unless isMember (R .n) d ∷ formChecks 
 -- the part that is handed back: empty where a check refuses
 unfoldable pub linesPart : Round → ℕ → List ℕ → List ℕ
 linesPart R d b = lentAfter (linesChecks R d b) (linesOf b d) []
+
+-- how many bytes behind the board's start that part begins: where his lines do, at the start itself where the number is refused
+unfoldable pub linesAt : Round → ℕ → List ℕ → ℕ
+linesAt R d b = lentAfter (linesChecks R d b) (32 * linesStart b d) 0
+
+-- the place so many bytes behind a place in memory, which is a block and an offset in it
+abbrev pub behind : ℕ → ℕ × ℕ → ℕ × ℕ
+behind k p = (p .0, k + p .1)
 
 -- ---- a dealer's opening
 unfoldable pub isOpeningBy : List ℕ → ℕ → ℕ → Bool

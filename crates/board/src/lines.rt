@@ -1,8 +1,10 @@
 // The part of a board that holds a dealer's lines.
 ghost use mathlib.Core.Path.{_≡_};
+ghost use Prim.Native.Nat.{_*_};
+ghost use denote.Ref.{ptr};
 ghost use Rattle.words.specs.Checks.{outcome};
 ghost use Rattle.sharing.specs.Answer.{checkOutcomeOf};
-ghost use Rattle.board.specs.Board.{linesOf, linesChecks, linesPart};
+ghost use Rattle.board.specs.Board.{linesStart, linesOf, linesChecks, linesPart, linesAt, behind};
 use crate::form::form_refusal;
 use crate::search::lines_end;
 use crate::search::lines_start;
@@ -15,6 +17,7 @@ use sharing::round_group;
 // The lines of dealer d as they lie on the board, where nothing is refused.
 pub fn lines_of(b: &[u8], d: u32) -> &[u8]
     ensures { λ r. ⌜ now r ≡ linesOf (now (b .entry)) d ⌝ }
+    ensures { λ r. ⌜ ptr r ≡ behind (32 * linesStart (now (b .entry)) d) (ptr (b .entry)) ⌝ }
 {
     let from = 32 * lines_start(b, d);
     let to = 32 * lines_end(b, d);
@@ -43,6 +46,7 @@ pub fn lines_check(rd: Round, d: u32, b: &[u8]) -> CheckAnswer
 // The lines of dealer d: the part of the caller's board that holds them, empty where lines_check refuses.
 pub fn dealer_lines(rd: Round, d: u32, b: &[u8]) -> &[u8]
     ensures { λ r. ⌜ now r ≡ linesPart rd d (now (b .entry)) ⌝ }
+    ensures { λ r. ⌜ ptr r ≡ behind (linesAt rd d (now (b .entry))) (ptr (b .entry)) ⌝ }
 {
     match lines_check(rd, d, b) {
         CheckAnswer::Refused(_) => &b[0..0],

@@ -1,10 +1,11 @@
 -- `dealer_lines` meets its contract: what `lines_check` answers tells whether every check is met.
 use mathlib.Core.Path.{sym, ap, _∙_}
 use mathlib.Core.List.{[]}
+use Prim.Native.Nat.{ℕ, _*_}
 use borrow.Author.Needs.{needs}
 use Rattle.words.proofs.Checks.{value-met, refused-exactly, lent-met, lent-kept}
 use Rattle.sharing.specs.Answer.{checkOutcomeOf}
-use Rattle.board.specs.Board.{linesOf, linesChecks, linesPart}
+use Rattle.board.specs.Board.{linesStart, linesOf, linesChecks, linesPart, linesAt, behind}
 use Rattle.board.proofs.lines.dealer_lines.Statement.{statement}
 use Rattle.board.proofs.lines.dealer_lines.Tie as tie
 
@@ -30,22 +31,25 @@ lines-of-requires : tie.Need-lines-of-requires
 lines-of-requires c κs = search needs
 
 returns : tie.Need-returns
-unfolding linesPart
+unfolding linesPart linesAt
 returns c =
     let l = c .before .before .before in
     let a = l .before .before .args in
-    let cs = linesChecks (a .rd) (a .d) (a .b .now) in
+    let b = a .b .now in
+    let cs = linesChecks (a .rd) (a .d) b in
     let u = refused-exactly (Unit {0}) cs tt _ .0 (sym (l .lines-check .ensures) ∙ ap checkOutcomeOf (c .before .enum-told .given .1)) in
-    sym (lent-kept cs (linesOf (a .b .now) (a .d)) [] _ u)
+    (sym (lent-kept cs (linesOf b (a .d)) [] _ u), ap (λ (k : ℕ). behind k (a .b .ptr)) (sym (lent-kept cs (32 * linesStart b (a .d)) 0 _ u)))
 
 returns-2 : tie.Need-returns-2
-unfolding linesPart
+unfolding linesPart linesAt
 returns-2 c =
     let l = c .before .before .before in
     let a = l .before .before .args in
-    let cs = linesChecks (a .rd) (a .d) (a .b .now) in
+    let b = a .b .now in
+    let cs = linesChecks (a .rd) (a .d) b in
     let m = value-met cs tt tt (sym (l .lines-check .ensures) ∙ ap checkOutcomeOf (c .before .enum-told2 .given .1)) .0 in
-    c .lines-of .ensures ∙ sym (lent-met cs (linesOf (a .b .now) (a .d)) [] m)
+    let f = c .lines-of .ensures in
+    (f .0 ∙ sym (lent-met cs (linesOf b (a .d)) [] m), f .1 ∙ ap (λ (k : ℕ). behind k (a .b .ptr)) (sym (lent-met cs (32 * linesStart b (a .d)) 0 m)))
 
 pub dealer-lines-spec : {M : Type 1} → statement M
 dealer-lines-spec =

@@ -3,7 +3,7 @@ use Prim.Native.Nat.{_-_, _*_}
 use native.Mathlib.Omega.{arith}
 use borrow.Author.Needs.{needs}
 use lib.ListN.{take, drop}
-use Rattle.board.specs.Board.{linesOf}
+use Rattle.board.specs.Board.{linesOf, behind}
 use Rattle.board.proofs.LineRun.{start-is, end-is, end-inside}
 use Rattle.board.proofs.lines.lines_of.Statement.{statement}
 use Rattle.board.proofs.lines.lines_of.Tie as tie
@@ -45,7 +45,7 @@ returns c =
     let a = c .before .before .before .before .args in
     let s = c .before .before .lines-start .ensures in
     let e = c .before .lines-end .ensures in
-    λ j. take (32 * e j - 32 * s j) (drop (32 * s j) (a .b .now))
+    (λ j. take (32 * e j - 32 * s j) (drop (32 * s j) (a .b .now)), λ j. behind (32 * s j) (a .b .ptr))
 
 pub lines-of-spec : {M : Type 1} → statement M
 lines-of-spec =

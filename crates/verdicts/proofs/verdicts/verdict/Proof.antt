@@ -14,7 +14,7 @@ returns : tie.Need-returns
 returns c =
     let l = c .before .before in
     let w = l .before .before .before in
-    no-lines (w .args .rd) (w .args .b .now) (w .args .d) (w .pre .1) (l .lines-of .ensures) (c .before .records .ensures) (c .if1 .taken)
+    no-lines (w .args .rd) (w .args .b .now) (w .args .d) (w .pre .1) (l .lines-of .ensures .0) (c .before .records .ensures) (c .if1 .taken)
 
 cast-if2 : tie.Need-cast-if2
 cast-if2 c = search needs
@@ -24,7 +24,7 @@ returns-2 c =
     let i = c .before .before in
     let l = i .before .before in
     let w = l .before .before .before in
-    not-all-lines (w .args .rd) (w .args .b .now) (w .args .d) (w .pre .1) (l .lines-of .ensures) (i .before .records .ensures) (i .if1 .left) (c .if2 .taken)
+    not-all-lines (w .args .rd) (w .args .b .now) (w .args .d) (w .pre .1) (l .lines-of .ensures .0) (i .before .records .ensures) (i .if1 .left) (c .if2 .taken)
 
 judge-dealing-requires : tie.Need-judge-dealing-requires
 judge-dealing-requires c κs = search needs
@@ -41,7 +41,7 @@ secret-requires c κs =
     let r = i .before .before .before in
     let l = r .before in
     let w = l .before .before .before in
-    (w .pre .0, all-lines (w .args .rd) (w .args .b .now) (w .args .d) (w .pre .1) (l .lines-of .ensures) (r .records .ensures) (i .if2 .left))
+    (w .pre .0, all-lines (w .args .rd) (w .args .b .now) (w .args .d) (w .pre .1) (l .lines-of .ensures .0) (r .records .ensures) (i .if2 .left))
 
 returns-3 : tie.Need-returns-3
 returns-3 c =
@@ -50,7 +50,7 @@ returns-3 c =
     let r = i .before .before .before in
     let l = r .before in
     let w = l .before .before .before in
-    dealing-refused (w .args .rd) (w .args .b .now) (w .args .d) (w .pre .1) (l .lines-of .ensures) (r .records .ensures) (i .before .before .if1 .left) (i .if2 .left) (w .pre .2)
+    dealing-refused (w .args .rd) (w .args .b .now) (w .args .d) (w .pre .1) (l .lines-of .ensures .0) (r .records .ensures) (i .before .before .if1 .left) (i .if2 .left) (w .pre .2)
     (j .judge-dealing .ensures) (c .before .k .given .1)
 
 returns-4 : tie.Need-returns-4
@@ -60,7 +60,7 @@ returns-4 c =
     let r = i .before .before .before in
     let l = r .before in
     let w = l .before .before .before in
-    dealing-accepted (w .args .rd) (w .args .b .now) (w .args .d) (w .pre .1) (l .lines-of .ensures) (r .records .ensures) (i .before .before .if1 .left) (i .if2 .left) (w .pre .2)
+    dealing-accepted (w .args .rd) (w .args .b .now) (w .args .d) (w .pre .1) (l .lines-of .ensures .0) (r .records .ensures) (i .before .before .if1 .left) (i .if2 .left) (w .pre .2)
     (j .judge-dealing .ensures) (c .before .enum-told .given .1) (c .secret .ensures)
 
 pub verdict-spec : {M : Type 1} → statement M
