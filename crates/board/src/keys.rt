@@ -2,8 +2,7 @@
 ghost use mathlib.Core.Path.{_≡_};
 ghost use mathlib.Core.Bool.{true};
 ghost use Prim.Native.Nat.{_≤_};
-ghost use lib.ListN.{take};
-ghost use Rattle.words.specs.Lists.{all};
+ghost use Rattle.words.specs.Lists.{all, filled};
 ghost use Rattle.words.specs.Checks.{refusal};
 ghost use Rattle.sharing.specs.Round.{groupIn, members};
 ghost use Rattle.board.specs.Board.{hasKey, keysIn, keyChecks, boardChecks};
@@ -30,11 +29,11 @@ fn has_keys(b: &[u8], n: u32) -> bool
     true
 }
 
-// The members' keys: the first n of an array.
+// The members' keys, and 0 behind them.
 // Internal: callers ensure that there are at most 31 members and that each has a key record.
 pub fn board_keys(b: &[u8], n: u32) -> [u32; 31]
     requires { ⌜ (n ≤ 31) × (all (hasKey (now b)) (members n) ≡ true) ⌝ }
-    ensures { λ r. ⌜ take n r ≡ keysIn n (now (b .entry)) ⌝ }
+    ensures { λ r. ⌜ r ≡ filled 31 (keysIn n (now (b .entry))) ⌝ }
 {
     let mut ys = [0u32; 31];
     let mut i: u32 = 0;

@@ -1,5 +1,5 @@
--- Why the conditions of the sentence on two boards stand: there are boards that meet them all, and without either of the two that no
--- judge can see, that polynomials carry the dealings and that accepted shares are true, two boards may end in two draws.
+-- Why the conditions of the sentence on two boards stand: there are boards that meet them all, and without either of the two that the
+-- judges do not test, that polynomials carry the dealings and that accepted shares are true, two boards may end in two draws.
 use mathlib.Core.Path.{_≡_}
 use mathlib.Core.Bool.{true}
 use mathlib.Core.List.{List, [], _∷_}

@@ -5,30 +5,31 @@ use Prim.Native.Nat.{ℕ, _-_, _≤_}
 use native.Mathlib.Omega.{arith}
 use lib.ListN.{length, getD, take}
 use lib.Seq.{getD-take}
-use Rattle.words.specs.Lists.{map, upFrom}
+use Rattle.words.specs.Lists.{map, upFrom, filled}
 use Rattle.words.proofs.Lists.{All-each, map-length, map-at, map-same, up-length}
 use Rattle.sharing.specs.Round.{members}
 use Rattle.sharing.specs.declared.Round.{Round}
 use Rattle.sharing.proofs.Loops.{member-at}
 use Rattle.posted.specs.Records.{entry}
 use Rattle.posted.specs.Message.{message, challengeOf, dealingMessage, coefficientMessage, checkPolynomial}
+use Rattle.posted.proofs.Filled.{members-front}
 use Rattle.posted.proofs.Members.{each-members}
 use Rattle.posted.proofs.Challenges.{bytes-same, message-same}
 
--- ---- a list that has f at each member
-pub figures-length : (f : ℕ → ℕ) (n : ℕ) {l : List ℕ} → l ≡ map f (members n) → length l ≡ n
-figures-length f n e = ap length e ∙ map-length f (members n) ∙ up-length 1 n
+-- ---- an array that holds f at each member
+pub figures-length : (f : ℕ → ℕ) (n : ℕ) {l : List ℕ} → l ≡ filled 31 (map f (members n)) → length (take n l) ≡ n
+figures-length f n e = ap length (members-front f n e) ∙ map-length f (members n) ∙ up-length 1 n
 
 pub record HoldsEach (f : ℕ → ℕ) (n : ℕ) (l : List ℕ) : Type 0 where
   pub each : (i : ℕ) → 1 ≤ i → i ≤ n → entry l i ≡ f i
 
-pub holds-each : (f : ℕ → ℕ) (n : ℕ) (l : List ℕ) → take n l ≡ map f (members n) → HoldsEach f n l
+pub holds-each : (f : ℕ → ℕ) (n : ℕ) (l : List ℕ) → l ≡ filled 31 (map f (members n)) → HoldsEach f n l
 unfolding entry
 holds-each f n l e =
     record {
       each = λ i h k.
           sym (getD-take n l (i - 1) 0 (omega arith))
-          ∙ ap (λ (x : List ℕ). getD x (i - 1) 0) e
+          ∙ ap (λ (x : List ℕ). getD x (i - 1) 0) (members-front f n e)
           ∙ map-at f (members n) (i - 1) 0 0 (omega (arith, up-length 1 n))
           ∙ ap f (member-at n i h k);
     }

@@ -97,8 +97,8 @@ fn all_challenges(c: Exponent, lines: &[u8], n: usize) -> bool
 {
     let mut i = 0;
     while i < n {
-        let line = record_at(lines, i);
-        if line.w6 != c.0 {
+        let own = record_at(lines, i);
+        if own.w6 != c.0 {
             return false;
         }
         i += 1;

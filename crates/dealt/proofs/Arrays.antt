@@ -3,8 +3,8 @@ use mathlib.Core.Path.{_≡_, refl, ap, _∙_}
 use mathlib.Core.List.{List, [], _∷_, _++_}
 use Prim.Native.Nat.{ℕ, _-_, _≤_}
 use native.Mathlib.Omega.{arith}
-use lib.ListN.{take, replicate, getD-replicate}
-use Rattle.words.specs.Lists.{All, map}
+use lib.ListN.{replicate, getD-replicate}
+use Rattle.words.specs.Lists.{All, map, filled}
 use Rattle.words.specs.Bytes.{recordBytes}
 use Rattle.words.specs.declared.Record.{Record}
 use Rattle.field.specs.Polynomial.{valueAt}
@@ -40,7 +40,7 @@ bases g n h = record { each = λ i k l. getD-replicate 31 (i - 1) g 0 (omega ari
 
 -- powers of bases b and exponents e
 powers-are : (G : Group) (n : ℕ) {b e : ℕ → ℕ} {bs es : List ℕ} → HoldsEach b n bs → HoldsEach e n es
-    → (rs : List ℕ) → take n rs ≡ map (powerOf G bs es) (members n) → HoldsEach (λ i. pow (G .p) (b i) (e i)) n rs
+    → (rs : List ℕ) → rs ≡ filled 31 (map (powerOf G bs es) (members n)) → HoldsEach (λ i. pow (G .p) (b i) (e i)) n rs
 powers-are G n {b} {e} {bs} {es} p q rs r =
     record { each = λ i h l. holds-each (powerOf G bs es) n rs r .each i h l ∙ (λ j. pow (G .p) (p .each i h l j) (q .each i h l j)) }
 
@@ -63,9 +63,9 @@ module _ (R : Round) {G : Group} (same : G ≡ groupIn R) (few : R .n ≤ 31) (d
   given l = record { each = λ i h k. refl }
 
   -- of a polynomial's values xs, commitments vs, encrypted shares es and announcements fs and hs
-  pub lines-are : {m c : ℕ} → m ≡ n → take n xs ≡ map (valueAt (G .q) cs) (members n)
-      → take n vs ≡ map (powerOf G gs xs) (members n) → take n es ≡ map (powerOf G ys xs) (members n)
-      → take n fs ≡ map (powerOf G gs ws) (members n) → take n hs ≡ map (powerOf G ys ws) (members n)
+  pub lines-are : {m c : ℕ} → m ≡ n → xs ≡ filled 31 (map (valueAt (G .q) cs) (members n))
+      → vs ≡ filled 31 (map (powerOf G gs xs) (members n)) → es ≡ filled 31 (map (powerOf G ys xs) (members n))
+      → fs ≡ filled 31 (map (powerOf G gs ws) (members n)) → hs ≡ filled 31 (map (powerOf G ys ws) (members n))
       → c ≡ challengeOf R (dealingMessage R d (entry vs) (entry es) (entry fs) (entry hs))
       → recordsBytes (lineOf G d vs es xs ws c) (members m) ≡ writtenDealing R d ys cs ws
   unfolding dealtV dealtY dealtC dealtR dealtLine writtenDealing

@@ -80,7 +80,7 @@ module _ (R : Round) (d : ℕ) (ys cs ws : List ℕ) (W : WritableDealing R d ys
   P : Proper G
   P = ready R (W .round) .proper
 
-  -- ---- P figures
+  -- ---- proper figures
   g-element : isElement G (G .g .0) ≡ true
   g-element = generator-element G P (G .g .0) (P .g-generates)
 

@@ -3,8 +3,8 @@ ghost use mathlib.Core.Path.{_≡_};
 ghost use mathlib.Core.Bool.{_&&_};
 ghost use Prim.Native.Nat.{_*_, _<_, _≤_};
 ghost use lib.Dec.{eqb};
-ghost use lib.ListN.{length, take, drop};
-ghost use Rattle.words.specs.Lists.{Below, map};
+ghost use lib.ListN.{length, drop};
+ghost use Rattle.words.specs.Lists.{Below, map, filled};
 ghost use Rattle.words.specs.Checks.{refusal, Met, lentAfter};
 ghost use Rattle.field.specs.Polynomial.{valueAt};
 ghost use Rattle.group.specs.Power.{pow};
@@ -27,11 +27,11 @@ use sharing::is_member;
 use sharing::round_group;
 use words::Record;
 
-// The value of the polynomial cs at each member: the first n places of an array.
+// The value of the polynomial cs at each member, and 0 behind them.
 // Internal: callers ensure that q is not 0 and that n is at most 31.
 fn values(gr: Group, cs: &[u32], n: usize) -> [u32; 31]
     requires { ⌜ (0 < gr .q) × (n ≤ 31) ⌝ }
-    ensures { λ r. ⌜ take n r ≡ map (valueAt (gr .q) (now (cs .entry))) (members n) ⌝ }
+    ensures { λ r. ⌜ r ≡ filled 31 (map (valueAt (gr .q) (now (cs .entry))) (members n)) ⌝ }
 {
     let mut xs = [0u32; 31];
     let mut i = 0;
@@ -42,11 +42,11 @@ fn values(gr: Group, cs: &[u32], n: usize) -> [u32; 31]
     xs
 }
 
-// Each member's base to his exponent: the first n places of an array.
+// Each member's base to his exponent, and 0 behind these powers.
 // Internal: callers ensure that p is above 1, n bases and n exponents, and that n is at most 31.
 fn powers(gr: Group, bs: &[u32], es: &[u32], n: usize) -> [u32; 31]
     requires { ⌜ (1 < gr .p) × (n ≤ 31) × (n ≤ length (now bs)) × (n ≤ length (now es)) ⌝ }
-    ensures { λ r. ⌜ take n r ≡ map (λ i. pow (gr .p) (entry (now (bs .entry)) i) (entry (now (es .entry)) i)) (members n) ⌝ }
+    ensures { λ r. ⌜ r ≡ filled 31 (map (λ i. pow (gr .p) (entry (now (bs .entry)) i) (entry (now (es .entry)) i)) (members n)) ⌝ }
 {
     let mut rs = [0u32; 31];
     let mut i = 0;

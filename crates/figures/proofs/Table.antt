@@ -1,17 +1,36 @@
--- The table of specs/Figures.antt, by computing.
-use mathlib.Core.Path.{refl}
+-- The table of specs/Figures.antt, by computing; that 1 is an element of each group follows from its being proper.
+use mathlib.Core.Path.{_≡_, refl}
+use mathlib.Core.Bool.{Bool, true, false, _&&_}
+use Prim.Native.Nat.{ℕ}
 use Rattle.field.specs.Residue.{add, mul, sub, inv}
 use Rattle.group.specs.Power.{pow}
 use Rattle.group.specs.Table.{isGroup, groupOf}
 use Rattle.group.specs.Element.{isElement, isExponent}
+use Rattle.group.specs.declared.Group.{Group}
+use Rattle.group.proofs.Powers.{one-power}
+use Rattle.group.proofs.Elements.{root-element}
+use Rattle.group.proofs.Table.{table-proper}
 use Rattle.sharing.specs.Round.{isRound, isMember}
 use Rattle.sharing.specs.Weights.{gapsAt, weightAt, weightsOf, lagrangeAt, powers}
 use Rattle.sharing.specs.Answer.{degreeProduct, degreeOutcome, recovered, recoveryOutcome, openingOutcome}
 use Rattle.sharing.specs.Carried.{powersAt}
-use Rattle.posted.specs.Records.{entry}
+use Rattle.posted.specs.Records.{entry, isKey}
 use Rattle.equality.specs.Equality.{announced, response, equalityOutcome}
 use Rattle.dealing.specs.Dealing.{dealtV, dealtY, dealtR}
 use Rattle.figures.specs.Figures.{Figures}
+
+one-element : (k : ℕ) → isGroup k ≡ true → isElement (groupOf k) 1 ≡ true
+one-element k h =
+    let P = table-proper k h in
+    root-element (groupOf k) P 1 (P .prime-p .above-one) (one-power (groupOf k .p) (groupOf k .q) (P .prime-p .above-one))
+
+one-no-key : (G : Group) → isKey G 1 ≡ false
+unfolding isKey
+one-no-key G = by (isElement G 1)
+  where
+    by : (b : Bool) → b && false ≡ false
+    by true = refl
+    by false = refl
 
 pub figures : Figures
 unfolding add mul sub inv pow isGroup groupOf isElement isExponent isRound isMember gapsAt weightAt weightsOf lagrangeAt powers degreeProduct degreeOutcome recovered recoveryOutcome openingOutcome powersAt entry announced response equalityOutcome dealtV dealtY dealtR
@@ -46,4 +65,6 @@ figures =
       exponent-11 = refl;
       round-10 = (refl, (refl, tt));
       round-11 = λ vs s. refl;
+      element-1 = one-element;
+      key-1 = one-no-key;
     }

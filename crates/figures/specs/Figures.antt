@@ -1,20 +1,25 @@
 -- The scope paper's section "Figures by hand" as one table, line by line and in its order, over the definitions that the contracts cite.
 -- Group 1, n = 4, t = 2 and the polynomial 3 + 5 times the member number throughout; * marks what the paper stars.
 use mathlib.Core.Path.{_≡_}
+use mathlib.Core.Bool.{true, false}
 use mathlib.Core.List.{List, [], _∷_}
 use Prim.Native.Nat.{ℕ}
 use Rattle.words.specs.Lists.{map}
 use Rattle.words.specs.Checks.{value, refused, Met}
 use Rattle.group.specs.Power.{pow}
+use Rattle.group.specs.Table.{isGroup, groupOf}
+use Rattle.group.specs.Element.{isElement}
 use Rattle.group.specs.Answer.{powerOutcome}
 use Rattle.group.specs.declared.Element.{Element}
 use Rattle.group.specs.declared.Exponent.{Exponent}
+use Rattle.group.specs.declared.Group.{Group}
 use Rattle.sharing.specs.Round.{groupIn, roundChecks, members}
 use Rattle.sharing.specs.Weights.{weightsOf}
 use Rattle.sharing.specs.Answer.{degreeProduct, degreeOutcome, recoveryOutcome, openingOutcome}
 use Rattle.sharing.specs.Carried.{TrueShares, secretOf}
 use Rattle.sharing.specs.Figures.{small}
 use Rattle.sharing.specs.declared.Round.{Round}
+use Rattle.posted.specs.Records.{isKey}
 use Rattle.equality.specs.Equality.{announced, equalityOutcome}
 use Rattle.equality.specs.declared.Equality.{Equality}
 use Rattle.dealing.specs.Dealing.{dealtV, dealtY, dealtR}
@@ -128,3 +133,7 @@ pub record Figures : Type 0 where
   -- n = 10 passes, 11: 2
   pub round-10 : Met (roundChecks (roundOf 10))
   pub round-11 : (vs : List ℕ) (s : ℕ) → openingOutcome (roundOf 11) vs s ≡ refused 2
+  -- ---- not of that section: 1 as a figure
+  -- in each group v = 1 and Y = 1 are proper; as a key 1 is not
+  pub element-1 : (k : ℕ) → isGroup k ≡ true → isElement (groupOf k) 1 ≡ true
+  pub key-1 : (G : Group) → isKey G 1 ≡ false

@@ -1,12 +1,12 @@
--- Arrays that a loop fills from the front: at each turn the first k places hold a function's values at k numbers in a row.
+-- Arrays that a loop fills from the front: at each turn they hold a function's values at k numbers in a row, and 0 behind them.
 use mathlib.Core.Path.{_≡_, refl, ap, _∙_}
 use mathlib.Core.List.{List, [], _∷_, _++_}
 use Prim.Native.Nat.{ℕ, zero, suc, _+_, _<_}
 use native.Mathlib.Numerals.{add-one}
 use native.Mathlib.Omega.{arith}
-use lib.ListN.{length, take, set, length-set}
-use lib.Seq.{take-suc-set}
-use Rattle.words.specs.Lists.{map, upFrom}
+use lib.ListN.{length, take, set}
+use Rattle.words.specs.Lists.{map, upFrom, filled}
+use Rattle.words.proofs.Lists.{map-length, up-length, filled-front, filled-next}
 use Rattle.sharing.specs.Round.{members}
 
 -- a run of numbers by its last
@@ -19,31 +19,24 @@ up-last i n = ap (upFrom i) (add-one n) ∙ last i n
         let e : suc i + n ≡ i + suc n = omega arith in
         ap (λ (l : List ℕ). i ∷ l) (last (suc i) n ∙ ap (λ (x : ℕ). upFrom (suc i) n ++ (x ∷ [])) e)
 
-map-append : (f : ℕ → ℕ) (xs ys : List ℕ) → map f (xs ++ ys) ≡ map f xs ++ map f ys
+pub map-append : (f : ℕ → ℕ) (xs ys : List ℕ) → map f (xs ++ ys) ≡ map f xs ++ map f ys
 map-append f [] ys = refl
 map-append f (x ∷ xs) ys = ap (λ (l : List ℕ). f x ∷ l) (map-append f xs ys)
 
-pub filled-next : (f : ℕ → ℕ) (i k x : ℕ) (l : List ℕ) → k < length l → take k l ≡ map f (upFrom i k) → x ≡ f (i + k)
-    → take (k + 1) (set l k x) ≡ map f (upFrom i (k + 1))
-filled-next f i k x l h t e =
-    rw (add-one k) (take-suc-set l k x h)
-    ∙ (λ j. t j ++ (e j ∷ []))
-    ∙ (rw (up-last i k, map-append))
-
--- ---- an array of 31 places, of which the first k hold f at the first k members
-pub record HoldsFirst (f : ℕ → ℕ) (k : ℕ) (l : List ℕ) : Type 0 where
-  pub size : length l ≡ 31
-  pub first : take k l ≡ map f (members k)
-
+-- ---- an array of 31 places that holds f at k numbers in a row, and 0 behind
 module _ (f : ℕ → ℕ) where
-  pub holds-none : (l : List ℕ) → length l ≡ 31 → HoldsFirst f 0 l
-  holds-none l e = record { size = e; first = refl }
+  run-length : (i k : ℕ) → length (map f (upFrom i k)) ≡ k
+  run-length i k = map-length f (upFrom i k) ∙ up-length i k
 
-  module _ (k : ℕ) {l : List ℕ} (H : HoldsFirst f k l) where
-    pub holds-next : {x : ℕ} → k < 31 → x ≡ f (k + 1) → HoldsFirst f (k + 1) (set l k x)
-    holds-next {x} h e =
-        let next : k + 1 ≡ 1 + k = omega arith in
-        record { size = simp length-set (H .size); first = filled-next f 1 k x l (omega (arith, H .size)) (H .first) (e ∙ ap f next) }
+  pub run-next : (i k : ℕ) {x : ℕ} {l : List ℕ} → l ≡ filled 31 (map f (upFrom i k)) → k < 31 → x ≡ f (i + k)
+      → set l k x ≡ filled 31 (map f (upFrom i (k + 1)))
+  run-next i k {x} e h v =
+      filled-next 31 k (map f (upFrom i k)) (run-length i k) e x h (ap (λ (y : ℕ). map f (upFrom i k) ++ (y ∷ [])) v ∙ (rw (up-last i k, map-append)))
 
-    pub holds-all : {n : ℕ} → k ≡ n → take n l ≡ map f (members n)
-    holds-all e = rw (← e) (H .first)
+  -- at the first k members
+  module _ (k : ℕ) {l : List ℕ} (e : l ≡ filled 31 (map f (members k))) where
+    pub members-next : {x : ℕ} → k < 31 → x ≡ f (k + 1) → set l k x ≡ filled 31 (map f (members (k + 1)))
+    members-next h v = let next : k + 1 ≡ 1 + k = omega arith in run-next 1 k e h (v ∙ ap f next)
+
+    pub members-front : take k l ≡ map f (members k)
+    members-front = filled-front 31 k (map f (members k)) (run-length 1 k) e

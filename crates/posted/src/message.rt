@@ -1,8 +1,9 @@
 // The hashed messages, and the exponents that their digests give.
 ghost use mathlib.Core.Path.{_≡_};
 ghost use mathlib.Core.List.{[], _∷_};
-ghost use Prim.Native.Nat.{_+_, _-_, _<_, _≤_};
+ghost use Prim.Native.Nat.{_+_, _<_, _≤_};
 ghost use lib.ListN.{length, take, drop};
+ghost use Rattle.words.specs.Lists.{filled};
 ghost use Rattle.words.specs.Checks.{Met};
 ghost use Rattle.words.specs.Bytes.{wordsBytes, putAt};
 ghost use Rattle.sha256.specs.Hash.{hash};
@@ -127,11 +128,11 @@ fn coefficient(gr: Group, rd: Round, d: u32, vs: &[u32; 31], es: &[u32; 31], k: 
     challenge(gr, &m, 6 + 8 * n)
 }
 
-// The judge's own check polynomial: the first n - t places of an array.
+// The judge's own check polynomial, and 0 behind its n - t coefficients.
 // Internal: callers ensure a proper round and its group, and a dealer at most n.
 pub fn check_polynomial(gr: Group, rd: Round, d: u32, vs: &[u32; 31], es: &[u32; 31]) -> [u32; 31]
     requires { ⌜ (Met (roundChecks rd)) × (gr ≡ groupIn rd) × (d ≤ rd .n) ⌝ }
-    ensures { λ r. ⌜ take (rd .n - rd .t) r ≡ checkPolynomial rd d (entry (now (vs .entry))) (entry (now (es .entry))) ⌝ }
+    ensures { λ r. ⌜ r ≡ filled 31 (checkPolynomial rd d (entry (now (vs .entry))) (entry (now (es .entry)))) ⌝ }
 {
     let mut cs = [0u32; 31];
     let count = rd.n - rd.t;

@@ -1,8 +1,8 @@
 // Records by their kind, the words of the members' records, and keys.
 ghost use mathlib.Core.Path.{_≡_};
 ghost use Prim.Native.Nat.{_+_, _*_, _<_, _≤_};
-ghost use lib.ListN.{length, take};
-ghost use Rattle.words.specs.Lists.{map, all};
+ghost use lib.ListN.{length};
+ghost use Rattle.words.specs.Lists.{map, all, filled};
 ghost use Rattle.sharing.specs.Round.{members};
 ghost use Rattle.posted.specs.Records.{isSpare, isKeyRecord, isLineRecord, isOpeningRecord, isShareRecord};
 ghost use Rattle.posted.specs.Records.{recordAt, wordOf, isKey, isSecretKey};
@@ -54,11 +54,11 @@ pub fn record_at(b: &[u8], k: usize) -> Record
     words::read_record(&b[from..to])
 }
 
-// The word k of each member's record: the first n places of an array.
+// The word k of each member's record, and 0 behind them.
 // Internal: callers ensure that the bytes are n records, at most 31, and that k is below 8.
 pub fn column(b: &[u8], n: usize, k: usize) -> [u32; 31]
     requires { ⌜ (n ≤ 31) × (length (now b) ≡ 32 * n) × (k < 8) ⌝ }
-    ensures { λ r. ⌜ take n r ≡ map (wordOf k (now (b .entry))) (members n) ⌝ }
+    ensures { λ r. ⌜ r ≡ filled 31 (map (wordOf k (now (b .entry))) (members n)) ⌝ }
 {
     let mut ws = [0u32; 31];
     let mut i = 0;

@@ -1,15 +1,15 @@
 // The message schedule, FIPS 180-4, section 6.2.2, step 1.
 ghost use mathlib.Core.Path.{_≡_};
 ghost use Prim.Native.Nat.{_<_, _≤_};
-ghost use lib.ListN.{take};
+ghost use Rattle.words.specs.Lists.{filled};
 ghost use Rattle.sha256.specs.Hash.{later, schedule};
 use crate::word::small_sigma0;
 use crate::word::small_sigma1;
 use std::num::wrapping_add_u32;
 
-// The first sixteen words, with room for those that follow.
+// The first sixteen words, and 0 in the places of those that follow.
 fn first_words(m: &[u32; 16]) -> [u32; 64]
-    ensures { λ r. ⌜ take 16 r ≡ schedule (now (m .entry)) 16 ⌝ }
+    ensures { λ r. ⌜ r ≡ filled 64 (schedule (now (m .entry)) 16) ⌝ }
 {
     let mut w = [0u32; 64];
     let mut t: usize = 0;

@@ -75,7 +75,7 @@ module _ (R : Round) (m : Met (roundChecks R)) (vs es : List ℕ) (C : Commitmen
   abbrev unit : ℕ → List ℕ
   unit k = unitAt k (R .n - R .t)
 
-  unit-polynomial : (k : ℕ) → CheckPolynomial R (unit k)
+  pub unit-polynomial : (k : ℕ) → CheckPolynomial R (unit k)
   unit-polynomial k =
       record { size = unit-length k (R .n - R .t); low = unit-low (groupIn R .q) k (R .n - R .t) (ready R m .proper .prime-q .above-one) }
 

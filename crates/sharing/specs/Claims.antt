@@ -25,7 +25,9 @@ LinearCheck =
 
 -- A. With n = t there is no place, and some polynomial of degree below t carries any n elements.
 abbrev pub AlwaysCarried : Type 0
-AlwaysCarried = (R : Round) → Met (roundChecks R) → R .n ≡ R .t → (vs : List ℕ) → Commitments R vs → (cs : List ℕ) × Carries R cs vs
+AlwaysCarried =
+    (R : Round) → Met (roundChecks R) → R .n ≡ R .t
+    → ((k : ℕ) → k < R .n - R .t → ⊥) × ((vs : List ℕ) → Commitments R vs → (cs : List ℕ) × Carries R cs vs)
 
 -- B. For n commitments in the group that no polynomial of degree below t carries, one place of the check polynomial, fixed by
 -- the commitments alone, lets at most one of its q values pass, whatever stands in the other places.
@@ -45,6 +47,13 @@ abbrev pub CarriedPasses : Type 0
 CarriedPasses =
     (R : Round) → Met (roundChecks R) → (cs vs : List ℕ) → Carries R cs vs
     → Commitments R vs × ((ds : List ℕ) → CheckPolynomial R ds → Passes R vs ds)
+
+-- B and C together: n elements are carried by some polynomial of degree below t exactly if the unit check polynomial of every place
+-- passes. So anybody can test by n - t degree checks whether commitments are carried.
+abbrev pub CarriedExactly : Type 0
+CarriedExactly =
+    (R : Round) → Met (roundChecks R) → (vs : List ℕ) → Commitments R vs
+    → ((cs : List ℕ) × Carries R cs vs) ↔ ((k : ℕ) → k < R .n - R .t → Passes R vs (unitAt k (R .n - R .t)))
 
 -- D. An opening is accepted exactly when it is the polynomial's value at 0.
 abbrev pub OpeningExactly : Type 0

@@ -1,159 +1,105 @@
--- The turns of the loop that gathers the t lowest members with accepted shares. What is gathered, followed by what the records from i on
--- still give, is the first t of all.
+-- The turns of the loop that gathers the t lowest members with accepted shares: at i it holds the first t that the records before i give.
 use mathlib.Core.Path.{_≡_, refl, sym, ap, _∙_}
 use mathlib.Core.Bool.{Bool, true, false}
-use mathlib.Core.List.{List, [], _∷_, _++_, append-assoc, append-nil}
-use Prim.Native.Nat.{ℕ, suc, _+_, _-_, _<_, _≤_}
+use mathlib.Core.List.{List, [], _∷_, _++_, append-nil}
+use Prim.Native.Nat.{ℕ, zero, suc, _+_, _<_, _≤_}
 use native.Mathlib.Omega.{arith}
-use native.Mathlib.Numerals.{add-one}
-use lib.ListN.{length, take, set, replicate, length-set}
-use lib.Seq.{take-suc-set, take-nil, length-take-le}
+use lib.ListN.{length, take, set, replicate, length-take, length-append}
+use lib.Seq.{take-nil, take-append-le}
 use Rattle.words.specs.Choice.{pick}
-use Rattle.words.specs.Lists.{map, upFrom}
-use Rattle.words.proofs.Lists.{map-length}
+use Rattle.words.specs.Lists.{map, upFrom, filled}
+use Rattle.words.proofs.Lists.{map-length, filled-none, filled-next}
 use Rattle.sharing.specs.declared.Round.{Round}
 use Rattle.posted.specs.Records.{recordAt}
+use Rattle.posted.proofs.Filled.{up-last, map-append}
 use Rattle.board.specs.Search.{filter, recordsIn}
 use Rattle.verdicts.specs.Verdict.{Judges, isShareBy, sharesBy}
-use Rattle.verdicts.specs.Lowest.{withShare, LowestBy}
+use Rattle.verdicts.specs.Lowest.{withShare, heldOf, lowestBy}
 use Rattle.verdicts.specs.declared.Lowest.{Lowest}
 
--- ---- one column: the first k places of l hold what is gathered
-module _ (f : ℕ → Bool) (g : ℕ → ℕ) (t n : ℕ) where
-  abbrev left : ℕ → ℕ → List ℕ
-  left k i = map g (take (t - k) (filter f (upFrom i (n - i))))
+-- ---- the first t of a list
+take-room : (t : ℕ) (xs : List ℕ) (x : ℕ) → length (take t xs) < t → take t (xs ++ (x ∷ [])) ≡ take t xs ++ (x ∷ [])
+take-room zero xs x h = absurd (omega arith)
+take-room (suc t) [] x h = ap (λ (l : List ℕ). x ∷ l) (take-nil t)
+take-room (suc t) (y ∷ xs) x h = ap (λ (l : List ℕ). y ∷ l) (take-room t xs x (omega arith))
 
-  abbrev pub Gathered : List ℕ → ℕ → ℕ → Type 0
-  Gathered l k i = take k l ++ left k i ≡ map g (take t (filter f (upFrom 0 n)))
+-- ---- the first t of the numbers below i that pass a test
+module _ (f : ℕ → Bool) where
+  filter-append : (xs ys : List ℕ) → filter f (xs ++ ys) ≡ filter f xs ++ filter f ys
+  filter-append [] ys = refl
+  filter-append (x ∷ xs) ys = by (f x) (filter-append xs ys)
+    where
+      by : (b : Bool) → filter f (xs ++ ys) ≡ filter f xs ++ filter f ys
+          → pick b (x ∷ filter f (xs ++ ys)) (filter f (xs ++ ys)) ≡ pick b (x ∷ filter f xs) (filter f xs) ++ filter f ys
+      by true e = ap (λ (l : List ℕ). x ∷ l) e
+      by false e = e
 
-  gathered-start : (l : List ℕ) → Gathered l 0 0
-  gathered-start l =
-      let a : t - 0 ≡ t = omega arith in
-      let b : n - 0 ≡ n = omega arith in
-      λ j. map g (take (a j) (filter f (upFrom 0 (b j))))
+  module _ (t i : ℕ) where
+    abbrev passing : ℕ → List ℕ
+    passing k = filter f (upFrom 0 k)
 
-  module _ (l : List ℕ) (k i : ℕ) (h : i < n) (e : Gathered l k i) where
-    turn : (m : ℕ) → take m (filter f (upFrom i (n - i)))
-        ≡ take m (pick (f i) (i ∷ filter f (upFrom (i + 1) (n - (i + 1)))) (filter f (upFrom (i + 1) (n - (i + 1)))))
-    turn m =
-        let a : n - i ≡ suc (n - (i + 1)) = omega arith in
-        let s : suc i ≡ i + 1 = omega arith in
-        ap (λ (x : ℕ). take m (filter f (upFrom i x))) a
-        ∙ ap (λ (y : ℕ). take m (pick (f i) (i ∷ filter f (upFrom y (n - (i + 1)))) (filter f (upFrom y (n - (i + 1)))))) s
+    abbrev pub lowest : List ℕ
+    lowest = take t (passing i)
 
-    -- the record passes
-    gathered-take : k < t → k < length l → f i ≡ true → Gathered (set l k (g i)) (k + 1) (i + 1)
-    gathered-take room u p =
-        let a : t - k ≡ suc (t - (k + 1)) = omega arith in
-        let s : left k i ≡ g i ∷ left (k + 1) (i + 1) =
-        ap (map g) (turn (t - k))
-        ∙ (λ j. map g (take (a j) (pick (p j) (i ∷ filter f (upFrom (i + 1) (n - (i + 1)))) (filter f (upFrom (i + 1) (n - (i + 1))))))) in
-        ap (λ (y : List ℕ). y ++ left (k + 1) (i + 1)) (ap (λ (y : ℕ). take y (set l k (g i))) (add-one k) ∙ take-suc-set l k (g i) u)
-        ∙ append-assoc (take k l) (g i ∷ []) (left (k + 1) (i + 1))
-        ∙ ap (λ (y : List ℕ). take k l ++ y) (sym s)
-        ∙ e
+    last : passing (i + 1) ≡ passing i ++ pick (f i) (i ∷ []) []
+    last =
+        let e : 0 + i ≡ i = omega arith in
+        ap (filter f) (up-last 0 i ∙ ap (λ (x : ℕ). upFrom 0 i ++ (x ∷ [])) e) ∙ filter-append (upFrom 0 i) (i ∷ [])
 
-    -- it does not
-    gathered-skip : f i ≡ false → Gathered l k (i + 1)
-    gathered-skip p =
-        let s : left k i ≡ left k (i + 1) =
-        ap (map g) (turn (t - k))
-        ∙ (λ j. map g (take (t - k) (pick (p j) (i ∷ filter f (upFrom (i + 1) (n - (i + 1)))) (filter f (upFrom (i + 1) (n - (i + 1))))))) in
-        ap (λ (y : List ℕ). take k l ++ y) (sym s) ∙ e
+    lowest-more : f i ≡ true → length lowest < t → take t (passing (i + 1)) ≡ lowest ++ (i ∷ [])
+    lowest-more p h = ap (take t) (last ∙ ap (λ (x : Bool). passing i ++ pick x (i ∷ []) []) p) ∙ take-room t (passing i) i h
 
-    -- t are gathered
-    gathered-full : t ≤ k → Gathered l k (i + 1)
-    gathered-full q =
-        let z : t - k ≡ 0 = omega arith in
-        ap (λ (y : ℕ). take k l ++ map g (take y (filter f (upFrom (i + 1) (n - (i + 1)))))) z
-        ∙ sym (ap (λ (y : ℕ). take k l ++ map g (take y (filter f (upFrom i (n - i))))) z)
-        ∙ e
+    lowest-same : f i ≡ false → take t (passing (i + 1)) ≡ lowest
+    lowest-same p = ap (take t) (last ∙ ap (λ (x : Bool). passing i ++ pick x (i ∷ []) []) p ∙ append-nil (passing i))
 
-  gathered-end : (l : List ℕ) (k i : ℕ) → n ≤ i → Gathered l k i → take k l ≡ map g (take t (filter f (upFrom 0 n)))
-  gathered-end l k i h e =
-      let z : n - i ≡ 0 = omega arith in
-      sym (append-nil (take k l))
-      ∙ ap (λ (y : List ℕ). take k l ++ map g y) (sym (take-nil (t - k)))
-      ∙ sym (ap (λ (m : ℕ). take k l ++ map g (take (t - k) (filter f (upFrom i m)))) z)
-      ∙ e
+    lowest-full : t ≤ length lowest → take t (passing (i + 1)) ≡ lowest
+    lowest-full h =
+        ap (take t) last ∙ take-append-le t (passing i) (pick (f i) (i ∷ []) []) (omega (arith, length-take t (passing i)))
 
--- ---- both columns
+-- ---- one more, held behind the others
+held-more : (b is : List ℕ) (i : ℕ) → length is < 31
+    → record { members = set (heldOf b is .members) (length is) (recordAt b i .w2); shares = set (heldOf b is .shares) (length is) (recordAt b i .w3); count = length is + 1 }
+    ≡ heldOf b (is ++ (i ∷ []))
+unfolding heldOf
+held-more b is i h =
+    let more : (g : ℕ → ℕ) → set (filled 31 (map g is)) (length is) (g i) ≡ filled 31 (map g (is ++ (i ∷ []))) =
+    λ g. filled-next 31 (length is) (map g is) (map-length g is) refl (g i) h (sym (map-append g is (i ∷ []))) in
+    λ j. record { members = more (λ i. recordAt b i .w2) j; shares = more (λ i. recordAt b i .w3) j; count = sym (length-append is (i ∷ [])) j }
+
+-- ---- the loop
 module _ (J : Judges) (R : Round) (b : List ℕ) (d : ℕ) where
-  abbrev memberIn : ℕ → ℕ
-  memberIn i = recordAt b i .w2
+  abbrev pub heldAt : ℕ → Lowest
+  heldAt i = heldOf b (lowest (isShareBy J R b d) (R .t) i)
 
-  abbrev shareIn : ℕ → ℕ
-  shareIn i = recordAt b i .w3
+  pub held-none : record { members = replicate 31 0; shares = replicate 31 0; count = 0 } ≡ heldAt 0
+  unfolding heldOf
+  held-none =
+      let e : [] ≡ lowest (isShareBy J R b d) (R .t) 0 = sym (take-nil (R .t)) in
+      λ j. record { members = (filled-none 31 ∙ ap (λ (is : List ℕ). filled 31 (map (λ i. recordAt b i .w2) is)) e) j; shares = (filled-none 31 ∙ ap (λ (is : List ℕ). filled 31 (map (λ i. recordAt b i .w3) is)) e) j; count = length (e j) }
 
-  pub record Found (n : ℕ) (A : Lowest) (i : ℕ) : Type 0 where
-    pub within : i ≤ n
-    pub top : A .count ≤ R .t
-    pub member-places : length (A .members) ≡ 31
-    pub share-places : length (A .shares) ≡ 31
-    pub members : Gathered (isShareBy J R b d) memberIn (R .t) n (A .members) (A .count) i
-    pub shares : Gathered (isShareBy J R b d) shareIn (R .t) n (A .shares) (A .count) i
+  module _ (i : ℕ) {A : Lowest} (e : A ≡ heldAt i) where
+    held-count : A .count ≡ length (lowest (isShareBy J R b d) (R .t) i)
+    unfolding heldOf
+    held-count = ap (λ (B : Lowest). B .count) e
 
-  pub found-start : (n : ℕ) → Found n (record { members = replicate 31 0; shares = replicate 31 0; count = 0 }) 0
-  found-start n =
-      record {
-        within = omega arith;
-        top = omega arith;
-        member-places = refl;
-        share-places = refl;
-        members = gathered-start (isShareBy J R b d) memberIn (R .t) n (replicate 31 0);
-        shares = gathered-start (isShareBy J R b d) shareIn (R .t) n (replicate 31 0);
-      }
-
-  module _ (n : ℕ) (A : Lowest) (i : ℕ) (F : Found n A i) where
-    pub found-next : i < n → R .t ≤ 31 → A .count < R .t → Found n (withShare J R b d i A) (i + 1)
-    unfolding withShare
-    found-next h l r = by (isShareBy J R b d i) refl
+    pub held-next : R .t ≤ 31 → A .count < R .t → withShare J R b d i A ≡ heldAt (i + 1)
+    unfolding withShare heldOf
+    held-next l h = ap (withShare J R b d i) e ∙ by (isShareBy J R b d i) refl
       where
+        is : List ℕ
+        is = lowest (isShareBy J R b d) (R .t) i
+
         by : (x : Bool) → isShareBy J R b d i ≡ x
-            → Found n (pick x (record { members = set (A .members) (A .count) (memberIn i); shares = set (A .shares) (A .count) (shareIn i); count = A .count + 1 }) A) (i + 1)
-        by true e =
-            record {
-              within = omega arith;
-              top = omega arith;
-              member-places = length-set (A .members) (A .count) (memberIn i) ∙ F .member-places;
-              share-places = length-set (A .shares) (A .count) (shareIn i) ∙ F .share-places;
-              members = gathered-take (isShareBy J R b d) memberIn (R .t) n (A .members) (A .count) i h (F .members) r (omega (arith, F .member-places)) e;
-              shares = gathered-take (isShareBy J R b d) shareIn (R .t) n (A .shares) (A .count) i h (F .shares) r (omega (arith, F .share-places)) e;
-            }
-        by false e =
-            record {
-              within = omega arith;
-              top = F .top;
-              member-places = F .member-places;
-              share-places = F .share-places;
-              members = gathered-skip (isShareBy J R b d) memberIn (R .t) n (A .members) (A .count) i h (F .members) e;
-              shares = gathered-skip (isShareBy J R b d) shareIn (R .t) n (A .shares) (A .count) i h (F .shares) e;
-            }
+            → pick x
+            (record { members = set (heldOf b is .members) (length is) (recordAt b i .w2); shares = set (heldOf b is .shares) (length is) (recordAt b i .w3); count = length is + 1 })
+            (heldOf b is)
+            ≡ heldAt (i + 1)
+        by true p = held-more b is i (omega (arith, held-count)) ∙ ap (heldOf b) (sym (lowest-more (isShareBy J R b d) (R .t) i p (omega (arith, held-count))))
+        by false p = ap (heldOf b) (sym (lowest-same (isShareBy J R b d) (R .t) i p))
 
-    pub found-full : i < n → R .t ≤ A .count → Found n A (i + 1)
-    found-full h q =
-        record {
-          within = omega arith;
-          top = F .top;
-          member-places = F .member-places;
-          share-places = F .share-places;
-          members = gathered-full (isShareBy J R b d) memberIn (R .t) n (A .members) (A .count) i h (F .members) q;
-          shares = gathered-full (isShareBy J R b d) shareIn (R .t) n (A .shares) (A .count) i h (F .shares) q;
-        }
+    pub held-full : R .t ≤ A .count → A ≡ heldAt (i + 1)
+    held-full h = e ∙ ap (heldOf b) (sym (lowest-full (isShareBy J R b d) (R .t) i (omega (arith, held-count))))
 
-    pub found-end : n ≡ recordsIn b → n ≤ i → R .t ≤ 31 → LowestBy J R b d A
-    unfolding sharesBy
-    found-end s h l =
-        let m = gathered-end (isShareBy J R b d) memberIn (R .t) n (A .members) (A .count) i h (F .members) in
-        let v = gathered-end (isShareBy J R b d) shareIn (R .t) n (A .shares) (A .count) i h (F .shares) in
-        let to : (g : ℕ → ℕ) → map g (take (R .t) (filter (isShareBy J R b d) (upFrom 0 n)))
-        ≡ map g (take (R .t) (filter (isShareBy J R b d) (upFrom 0 (recordsIn b)))) =
-        λ g. ap (λ (x : ℕ). map g (take (R .t) (filter (isShareBy J R b d) (upFrom 0 x)))) s in
-        record {
-          count =
-              sym (length-take-le (A .count) (A .members) (omega (arith, F .top, F .member-places)))
-              ∙ ap length (m ∙ to memberIn)
-              ∙ map-length memberIn (take (R .t) (filter (isShareBy J R b d) (upFrom 0 (recordsIn b))));
-          members = m ∙ to memberIn;
-          shares = v ∙ to shareIn;
-        }
+    pub held-all : i ≡ recordsIn b → A ≡ lowestBy J R b d
+    unfolding lowestBy sharesBy
+    held-all n = e ∙ ap heldAt n

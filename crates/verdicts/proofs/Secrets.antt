@@ -9,7 +9,7 @@ use borrow.Author.Tests.{lt-ltb, le-ltb, ltb-true}
 use lib.ListN.{length, take, length-take}
 use lib.Dec.{ltb}
 use Rattle.words.specs.Lists.{Below, map, upFrom}
-use Rattle.words.proofs.Lists.{All-to, All-take, map-all, map-length}
+use Rattle.words.proofs.Lists.{All-to, All-take, map-all, map-length, filled-front}
 use Rattle.words.proofs.Tests.{and-true, pick-true, pick-false}
 use Rattle.group.specs.Power.{pow}
 use Rattle.group.specs.declared.Group.{Group}
@@ -22,7 +22,7 @@ use Rattle.dealing.specs.Dealing.{vIn, vsIn}
 use Rattle.board.specs.Search.{filter, recordsIn}
 use Rattle.board.specs.Board.{linesOf, openingRecord}
 use Rattle.verdicts.specs.Verdict.{Judges, Dealt, commitmentsOf, isShareBy, sharesBy, fromShares, isOpened, secretBy}
-use Rattle.verdicts.specs.Lowest.{LowestBy}
+use Rattle.verdicts.specs.Lowest.{heldOf, lowestBy}
 use Rattle.verdicts.specs.declared.Lowest.{Lowest}
 use Rattle.verdicts.specs.declared.Secret.the-variants.{Opened, Recovered, Stuck}
 use Rattle.board.proofs.Searches.{filter-up}
@@ -52,37 +52,51 @@ module _ (J : Judges) {R : Round} {b : List ℕ} {d : ℕ} {lines : List ℕ} (D
       (All-take (λ i. recordAt b i .w2 < groupIn R .q) (R .t) is
       (All-to is (λ i s. let z = shapes F i (omega (arith, s .0 .1)) .member in omega (arith, z, dealt-ready D .few)) (filter-up (isShareBy J R b d) 0 (recordsIn b))))
 
-  module _ {A : Lowest} (L : LowestBy J R b d A) where
+  abbrev taken : List ℕ
+  taken = take (R .t) (sharesBy J R b d)
+
+  module _ {A : Lowest} (L : A ≡ lowestBy J R b d) where
+    count-is : A .count ≡ length taken
+    unfolding lowestBy heldOf
+    count-is = ap (λ (B : Lowest). B .count) L
+
+    members-are : take (A .count) (A .members) ≡ map (λ i. recordAt b i .w2) taken
+    unfolding lowestBy heldOf
+    members-are = filled-front 31 (A .count) _ (map-length (λ i. recordAt b i .w2) taken ∙ sym count-is) (ap (λ (B : Lowest). B .members) L)
+
+    shares-are : take (A .count) (A .shares) ≡ map (λ i. recordAt b i .w3) taken
+    unfolding lowestBy heldOf
+    shares-are = filled-front 31 (A .count) _ (map-length (λ i. recordAt b i .w3) taken ∙ sym count-is) (ap (λ (B : Lowest). B .shares) L)
+
     pub members-room : A .count ≤ length (A .members)
-    members-room = full-taken _ _ (ap length (L .members) ∙ map-length (λ i. recordAt b i .w2) (take (R .t) (sharesBy J R b d)) ∙ sym (L .count))
+    members-room = full-taken _ _ (ap length members-are ∙ map-length (λ i. recordAt b i .w2) taken ∙ sym count-is)
 
     pub shares-room : A .count ≤ length (A .shares)
-    shares-room = full-taken _ _ (ap length (L .shares) ∙ map-length (λ i. recordAt b i .w3) (take (R .t) (sharesBy J R b d)) ∙ sym (L .count))
+    shares-room = full-taken _ _ (ap length shares-are ∙ map-length (λ i. recordAt b i .w3) taken ∙ sym count-is)
 
     pub found-low : {G : Group} → groupIn R ≡ G → Below (G .q) (take (A .count - 0) (A .members))
     found-low e =
         subst (λ (H : Group). Below (H .q) (take (A .count - 0) (A .members))) e
-        (subst (Below (groupIn R .q)) (sym (ap (λ (k : ℕ). take k (A .members)) (sub-zero (A .count)) ∙ L .members)) members-low)
+        (subst (Below (groupIn R .q)) (sym (ap (λ (k : ℕ). take k (A .members)) (sub-zero (A .count)) ∙ members-are)) members-low)
 
     pub found-even : length (take (A .count - 0) (A .members)) ≡ length (take (A .count - 0) (A .shares))
     found-even =
-        let is = take (R .t) (sharesBy J R b d) in
-        ap (λ (k : ℕ). length (take k (A .members))) (sub-zero (A .count)) ∙ ap length (L .members) ∙ map-length (λ i. recordAt b i .w2) is
-        ∙ sym (ap (λ (k : ℕ). length (take k (A .shares))) (sub-zero (A .count)) ∙ ap length (L .shares) ∙ map-length (λ i. recordAt b i .w3) is)
+        ap (λ (k : ℕ). length (take k (A .members))) (sub-zero (A .count)) ∙ ap length members-are ∙ map-length (λ i. recordAt b i .w2) taken
+        ∙ sym (ap (λ (k : ℕ). length (take k (A .shares))) (sub-zero (A .count)) ∙ ap length shares-are ∙ map-length (λ i. recordAt b i .w3) taken)
 
     pub found-few : A .count < R .t → Stuck ≡ fromShares J R b d
     unfolding fromShares
     found-few h =
-        sym (pick-true (ltb (length (sharesBy J R b d)) (R .t)) _ _ (lt-ltb _ _ (few-taken (R .t) (sharesBy J R b d) (omega (arith, L .count)))))
+        sym (pick-true (ltb (length (sharesBy J R b d)) (R .t)) _ _ (lt-ltb _ _ (few-taken (R .t) (sharesBy J R b d) (omega (arith, count-is)))))
 
     pub found-enough : R .t ≤ A .count → {G : Group} {v : ℕ} → groupIn R ≡ G → v ≡ recovered G (take (A .count - 0) (A .members)) (take (A .count - 0) (A .shares))
         → Recovered (record { 0 = v }) ≡ fromShares J R b d
     unfolding fromShares
     found-enough h {G} {v} e f =
-        let m = ap (λ (k : ℕ). take k (A .members)) (sub-zero (A .count)) ∙ L .members in
-        let s = ap (λ (k : ℕ). take k (A .shares)) (sub-zero (A .count)) ∙ L .shares in
+        let m = ap (λ (k : ℕ). take k (A .members)) (sub-zero (A .count)) ∙ members-are in
+        let s = ap (λ (k : ℕ). take k (A .shares)) (sub-zero (A .count)) ∙ shares-are in
         (λ j. Recovered (record { 0 = (f ∙ (λ k. recovered (sym e k) (m k) (s k))) j }))
-        ∙ sym (pick-false (ltb (length (sharesBy J R b d)) (R .t)) _ _ (le-ltb _ _ (all-taken (R .t) (sharesBy J R b d) (omega (arith, L .count)))))
+        ∙ sym (pick-false (ltb (length (sharesBy J R b d)) (R .t)) _ _ (le-ltb _ _ (all-taken (R .t) (sharesBy J R b d) (omega (arith, count-is)))))
 
 -- ---- the opening
 module _ (R : Round) (b : List ℕ) (d : ℕ) where

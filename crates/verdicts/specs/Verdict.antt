@@ -29,7 +29,7 @@ pub record Judges : Type 0 where
   pub dealing : Round → ℕ → List ℕ → List ℕ → Outcome (Unit {0})
   pub share : Round → ℕ → ℕ → ℕ → ℕ → List ℕ → Outcome Element
 
--- the judges of the crate dealing
+-- the judges of this repository, of the crates dealing and opened
 abbrev pub judges : Judges
 judges = record { dealing = judgeDealingOutcome; share = judgeShareOutcome }
 

@@ -25,7 +25,7 @@ pub struct Seat {
     pub verdict: Verdict,
 }
 
-// The lowest members with accepted shares, and these shares: the first places of two arrays.
+// The lowest members with accepted shares, and these shares: two arrays with 0 behind them, and how many there are.
 pub struct Lowest {
     pub members: [u32; 31],
     pub shares: [u32; 31],

@@ -4,7 +4,7 @@ ghost use Prim.Native.Nat.{_<_};
 ghost use Rattle.group.specs.Answer.{elementOutcomeOf};
 ghost use Rattle.board.specs.Search.{recordsIn};
 ghost use Rattle.verdicts.specs.Verdict.{judges, Dealt, shareOutcome};
-ghost use Rattle.verdicts.specs.Lowest.{withShare, LowestBy};
+ghost use Rattle.verdicts.specs.Lowest.{withShare, lowestBy};
 use crate::Lowest;
 use board::find_key;
 use board::records;
@@ -62,7 +62,7 @@ fn with_share(rd: Round, b: &[u8], d: u32, lines: &[u8], i: usize, found: Lowest
 // Internal: callers ensure that these are the n lines of d on a board whose verdicts are reached.
 pub(crate) fn lowest_shares(rd: Round, b: &[u8], d: u32, lines: &[u8]) -> Lowest
     requires { ⌜ Dealt rd (now b) d (now lines) ⌝ }
-    ensures { λ r. ⌜ LowestBy judges rd (now (b .entry)) d r ⌝ }
+    ensures { λ r. ⌜ r ≡ lowestBy judges rd (now (b .entry)) d ⌝ }
 {
     let room = rd.t as usize;
     let all = records(b);

@@ -10,7 +10,7 @@ use borrow.Author.Tests.{ltb-true}
 use lib.Dec.{ltb}
 use Rattle.words.specs.Lists.{all}
 use Rattle.words.specs.Checks.{Check, value, refused, refusal, outcome, Met, FirstUnmet, Numbered, lentAfter}
-use Rattle.words.specs.Claims.{ValueExactly, RefusedExactly, NoneExactly, FirstExactly}
+use Rattle.words.specs.Claims.{ValueExactly, RefusedExactly, NoneExactly, FirstExactly, LentMet, LentKept}
 use Rattle.words.proofs.Lists.{All-to}
 use Rattle.words.proofs.Tests.{all-true, pick-true, pick-false}
 
@@ -122,11 +122,11 @@ numbered cs e = All-to cs (λ c s. ltb-true 0 (c .number) s) (all-true (λ c. lt
 
 -- ---- a lent buffer: written where every check is met, else as it was
 module _ {A : Type 0} where
-  pub lent-met : (cs : List Check) (new old : A) → Met cs → lentAfter cs new old ≡ new
+  pub lent-met : LentMet A
   lent-met [] new old m = refl
   lent-met (c ∷ cs) new old m = pick-true (c .met) (lentAfter cs new old) old (m .0) ∙ lent-met cs new old (m .1)
 
-  pub lent-kept : (cs : List Check) (new old : A) (k : ℕ) → FirstUnmet k cs → lentAfter cs new old ≡ old
+  pub lent-kept : LentKept A
   lent-kept [] new old k u = absurd u
   lent-kept (c ∷ cs) new old k u =
       ⊎-elim

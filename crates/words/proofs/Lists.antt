@@ -1,13 +1,13 @@
--- Laws on lists: facts of every element, maps, and runs of numbers.
-use mathlib.Core.Path.{_≡_, refl, ap, _∙_}
+-- Laws on lists: facts of every element, maps, runs of numbers, and lists that are filled up with 0.
+use mathlib.Core.Path.{_≡_, refl, sym, ap, _∙_}
 use mathlib.Core.List.{List, [], _∷_, _++_}
 use Prim.Native.Nat.{ℕ, zero, suc, _+_, _-_, _≤_, _<_}
 use native.Mathlib.Nat.{le-of-suc-le-suc, not-suc-le-zero}
 use native.Mathlib.Numerals.{add-one}
 use native.Mathlib.Omega.{arith}
-use lib.ListN.{length, getD, take, drop}
-use lib.Seq.{drop-cons, take-take}
-use Rattle.words.specs.Lists.{All, Distinct, map, upFrom}
+use lib.ListN.{length, getD, take, drop, set, replicate, length-append}
+use lib.Seq.{drop-cons, take-take, take-at, set-at, append-snoc}
+use Rattle.words.specs.Lists.{All, Distinct, map, upFrom, filled}
 
 -- ---- facts of every element
 module _ {A : Type 0} where
@@ -126,3 +126,24 @@ up-drop i (suc n) (suc k) h =
     let e : suc i + k ≡ i + suc k = omega arith in
     let r : n - k ≡ suc n - suc k = omega arith in
     up-drop (suc i) n k (le-of-suc-le-suc h) ∙ (λ j. upFrom (e j) (r j))
+
+-- ---- an array l of m places that holds the k numbers xs, and 0 behind them
+pub filled-none : (m : ℕ) → replicate m 0 ≡ filled m []
+unfolding filled
+filled-none m = let e : m ≡ m - 0 = omega arith in ap (λ (k : ℕ). replicate k 0) e
+
+module _ (m k : ℕ) (xs : List ℕ) {l : List ℕ} (s : length xs ≡ k) (e : l ≡ filled m xs) where
+  pub filled-front : take k l ≡ xs
+  unfolding filled
+  filled-front = ap (take k) e ∙ take-at xs (replicate (m - length xs) 0) k s
+
+  -- one number more, as a loop that fills it runs up
+  pub filled-next : (x : ℕ) {ys : List ℕ} → k < m → xs ++ (x ∷ []) ≡ ys → set l k x ≡ filled m ys
+  unfolding filled
+  filled-next x h f =
+      let r : List ℕ = replicate (m - length (xs ++ (x ∷ []))) 0 in
+      let room : m - length xs ≡ suc (m - length (xs ++ (x ∷ []))) = omega (arith, length-append xs (x ∷ [])) in
+      ap (λ (t : List ℕ). set t k x) (e ∙ ap (λ (i : ℕ). xs ++ replicate i 0) room)
+      ∙ set-at xs 0 r x k s
+      ∙ sym (append-snoc xs x r)
+      ∙ ap (filled m) f

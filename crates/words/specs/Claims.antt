@@ -5,7 +5,7 @@ use mathlib.Core.Logic.{_↔_}
 use Prim.Native.Nat.{ℕ, _^_, _<_}
 use lib.ListN.{length}
 use Rattle.words.specs.Lists.{Below}
-use Rattle.words.specs.Checks.{Check, value, refused, refusal, outcome, Met, FirstUnmet, Numbered}
+use Rattle.words.specs.Checks.{Check, value, refused, refusal, outcome, Met, FirstUnmet, Numbered, lentAfter}
 use Rattle.words.specs.Bytes.{recordWords, recordBytes, recordIn}
 use Rattle.words.specs.declared.Record.{Record}
 
@@ -25,6 +25,13 @@ NoneExactly = (cs : List Check) → Numbered cs → (refusal cs ≡ 0) ↔ Met c
 -- the number is k exactly if the first check that is not met has the number k
 abbrev pub FirstExactly : Type 0
 FirstExactly = (cs : List Check) (k : ℕ) → 0 < k → (refusal cs ≡ k) ↔ FirstUnmet k cs
+
+-- what a lent buffer holds afterwards: the new where every check is met, and the old where one is not
+abbrev pub LentMet : Type 0 → Type 0
+LentMet A = (cs : List Check) (new old : A) → Met cs → lentAfter cs new old ≡ new
+
+abbrev pub LentKept : Type 0 → Type 0
+LentKept A = (cs : List Check) (new old : A) (k : ℕ) → FirstUnmet k cs → lentAfter cs new old ≡ old
 
 -- ---- records
 -- a record that is written reads back

@@ -1,8 +1,9 @@
--- Facts and tests over a whole list, and runs of numbers.
+-- Facts and tests over a whole list, runs of numbers, and lists that are filled up with 0.
 use mathlib.Core.Path.{_≡_}
 use mathlib.Core.Bool.{Bool, true, false, _&&_}
-use mathlib.Core.List.{List, [], _∷_}
-use Prim.Native.Nat.{ℕ, zero, suc, _<_}
+use mathlib.Core.List.{List, [], _∷_, _++_}
+use Prim.Native.Nat.{ℕ, zero, suc, _-_, _<_}
+use lib.ListN.{length, replicate}
 use lib.Dec.{eqb}
 use Rattle.words.specs.Choice.{pick}
 
@@ -43,3 +44,7 @@ noneTwice (x ∷ xs) = absent x xs && noneTwice xs
 abbrev pub upFrom : ℕ → ℕ → List ℕ
 upFrom i zero = []
 upFrom i (suc n) = i ∷ upFrom (suc i) n
+
+-- the numbers xs, and 0 behind them up to m places
+unfoldable pub filled : ℕ → List ℕ → List ℕ
+filled m xs = xs ++ replicate (m - length xs) 0

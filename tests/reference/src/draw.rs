@@ -4,8 +4,9 @@ use crate::answer::{require, Answer};
 use crate::board::{judge_board, Judged, Secret, Verdict};
 use crate::record::{self, Record, SIZE};
 use crate::round::Figures;
+use std::fs::File;
+use std::io::Read;
 use std::path::Path;
-use std::{fs, io};
 
 pub const SET_FILE: &str = "round.set";
 pub const BOARD_FILE: &str = "board.bin";
@@ -63,53 +64,30 @@ fn verdict_text(verdict: &Verdict) -> String {
     }
 }
 
-/// A file's bytes, none where it is missing.
-fn read_file(path: &Path) -> io::Result<Vec<u8>> {
-    match fs::read(path) {
-        Err(error) if error.kind() == io::ErrorKind::NotFound => Ok(Vec::new()),
-        bytes => bytes,
+/// A file's bytes: none where it cannot be opened, and a read that fails counts as the end of the file.
+fn read_file(path: &Path) -> Vec<u8> {
+    let mut bytes = Vec::new();
+    if let Ok(mut file) = File::open(path) {
+        // What was read before a failure stays among the bytes.
+        let _ = file.read_to_end(&mut bytes);
     }
+    bytes
 }
 
 /// The text of the two files in a folder.
-pub fn text_of(folder: &Path) -> io::Result<String> {
-    let set = read_file(&folder.join(SET_FILE))?;
-    let board = read_file(&folder.join(BOARD_FILE))?;
-    Ok(text(&set, &board))
-}
-
-/// The files of the example round: two members of group 1, threshold 1, and their keys 12 and 9.
-pub fn example() -> [(&'static str, Vec<u8>); 2] {
-    let two = Figures {
-        number: 1,
-        n: 2,
-        t: 1,
-    };
-    let keys = [12, 9];
-    let records = (1..)
-        .zip(keys)
-        .map(|(member, y)| [record::KEY, 0, member, y, 0, 0, 0, 0]);
-    [
-        (SET_FILE, record::bytes([set_record(two)])),
-        (BOARD_FILE, record::bytes(records)),
-    ]
+pub fn text_of(folder: &Path) -> String {
+    let [set, board] = [SET_FILE, BOARD_FILE].map(|name| read_file(&folder.join(name)));
+    text(&set, &board)
 }
 
 #[cfg(test)]
 mod tests {
     use super::*;
-
-    #[test]
-    fn the_example_round() {
-        let [(_, set), (_, board)] = example();
-        assert_eq!(set.len() + board.len(), 96);
-        let expected = "round 1 2 1\ndealer 1 none\ndealer 2 none\naccepted 0\nrefused 14\n";
-        assert_eq!(text(&set, &board), expected);
-    }
+    use crate::example::{of_keys_alone, Round};
 
     #[test]
     fn the_set_is_judged_first() {
-        let [(_, mut set), (_, board)] = example();
+        let Round { mut set, board } = of_keys_alone();
         assert_eq!(text(&set, &board[1..]), "refused 3\n");
         assert_eq!(text(&set, &[]), "refused 12\n");
         set[31] = 1;

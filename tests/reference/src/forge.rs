@@ -2,14 +2,13 @@
 //! figures that pass a check by luck, which takes about q tries.
 
 use crate::dealing::judge_dealing;
-use crate::draw::set_record;
+use crate::draw::{set_record, SET_FILE};
 use crate::group::G;
 use crate::modular::value_at;
 use crate::posting::{opening_record, Members};
-use crate::record::{self, Record, KEY, LINE, OPENING, SHARE, SIZE};
+use crate::record::{self, Record, SHARE};
 use crate::round::FOUR;
 use crate::share::judge_share;
-use std::collections::BTreeSet;
 
 /// The secret keys, the polynomials of the first two dealers and the nonces of the first, for both pairs of boards.
 const SECRET_KEYS: [u32; 4] = [5, 2, 7, 3];
@@ -26,21 +25,42 @@ fn values(polynomial: &[u32]) -> [u32; 4] {
     [1, 2, 3, 4].map(|i| value_at(polynomial, i, 11))
 }
 
-/// The board of the keys, the first dealer's lines, the second dealer's lines with his opening, the opening of the first
-/// where he has one, and shares of his dealing.
-fn board(
-    members: &Members,
-    first: &[Record],
-    opening: Option<Record>,
-    shares: &[Record],
-) -> Vec<u8> {
-    let mut records = members.key_records();
-    records.extend(first);
-    records.extend(members.lines(2, &values(&SECOND), &[9, 10, 1, 2]));
-    records.extend(opening);
-    records.push(opening_record(2, SECOND[0]));
-    records.extend(shares);
-    record::bytes(records)
+/// What the boards are made of: the keys, two dealings of dealer 1, and one of dealer 2.
+pub struct Parts {
+    pub keys: Vec<Record>,
+    pub first: Vec<Record>,
+    pub uncarried: Vec<Record>,
+    pub second: Vec<Record>,
+}
+
+/// A board: its name among the files and among the definitions, whether a polynomial carries dealer 1's dealing on it,
+/// and what stands behind the lines of both dealers.
+pub struct Board {
+    pub file: &'static str,
+    pub definition: &'static str,
+    pub is_carried: bool,
+    pub behind: Vec<Record>,
+}
+
+impl Parts {
+    fn new(members: &Members) -> Parts {
+        Parts {
+            keys: members.key_records(),
+            first: members.lines(1, &values(&FIRST), &NONCES),
+            uncarried: uncarried_lines(members),
+            second: members.lines(2, &values(&SECOND), &[9, 10, 1, 2]),
+        }
+    }
+
+    fn bytes(&self, board: &Board) -> Vec<u8> {
+        let first = if board.is_carried {
+            &self.first
+        } else {
+            &self.uncarried
+        };
+        let records = [&self.keys, first, &self.second, &board.behind];
+        record::bytes(records.into_iter().flatten().copied())
+    }
 }
 
 /// Lines of dealer 1 that are accepted though no polynomial carries them. He deals his polynomial's values to members
@@ -57,17 +77,6 @@ fn uncarried_lines(members: &Members) -> Vec<Record> {
         }
     }
     unreachable!("about one in 11 passes")
-}
-
-/// Two boards that have this dealing in common. On one the members 1 and 2 open their shares of it, on the other 1
-/// and 3, all of them honestly.
-fn uncarried() -> [Vec<u8>; 2] {
-    let members = members();
-    let lines = uncarried_lines(&members);
-    [1, 2].map(|other| {
-        let shares = [0, other].map(|k| members.share(&lines[k], 5));
-        board(&members, &lines, None, &shares)
-    })
 }
 
 /// A share of a member who claims 4 times his S: he tries challenges and responses until one pair is accepted.
@@ -88,56 +97,50 @@ fn forged_share(members: &Members, line: &Record) -> Record {
 }
 
 /// Three boards with dealer 1's polynomial: he has opened; he is silent, and members 1 and 2 open their shares of his
-/// dealing; the same with member 1's share forged.
-fn carried() -> [Vec<u8>; 3] {
-    let members = members();
-    let lines = members.lines(1, &values(&FIRST), &NONCES);
-    let [first, second] = [0, 1].map(|k| members.share(&lines[k], 5));
-    let forged = forged_share(&members, &lines[0]);
-    let opening = opening_record(1, FIRST[0]);
+/// dealing; the same with member 1's share forged. Two with his dealing that no polynomial carries: members 1 and 2
+/// open their shares of it, or 1 and 3, all of them honestly. Dealer 2 has opened on each.
+fn boards(members: &Members, parts: &Parts) -> [Board; 5] {
+    let openings = [opening_record(1, FIRST[0]), opening_record(2, SECOND[0])];
+    let shared = |one, other| vec![openings[1], one, other];
+    let [one, two] = [0, 1].map(|k| members.share(&parts.first[k], 5));
+    let forged = forged_share(members, &parts.first[0]);
+    let [low, middle, high] = [0, 1, 2].map(|k| members.share(&parts.uncarried[k], 5));
+    let names = [
+        ("opened.bin", "openedBoard"),
+        ("silent.bin", "silentBoard"),
+        ("forged.bin", "forgedBoard"),
+        ("uncarried-low.bin", "uncarriedLow"),
+        ("uncarried-high.bin", "uncarriedHigh"),
+    ];
+    let board = |k: usize, is_carried, behind| Board {
+        file: names[k].0,
+        definition: names[k].1,
+        is_carried,
+        behind,
+    };
     [
-        board(&members, &lines, Some(opening), &[]),
-        board(&members, &lines, None, &[first, second]),
-        board(&members, &lines, None, &[forged, second]),
+        board(0, true, openings.to_vec()),
+        board(1, true, shared(one, two)),
+        board(2, true, shared(forged, two)),
+        board(3, false, shared(low, middle)),
+        board(4, false, shared(low, high)),
     ]
+}
+
+/// The boards, and what they are made of.
+pub fn made() -> (Parts, [Board; 5]) {
+    let members = members();
+    let parts = Parts::new(&members);
+    let boards = boards(&members, &parts);
+    (parts, boards)
 }
 
 /// The names and bytes of the files: the set, and the boards.
 pub fn files() -> [(&'static str, Vec<u8>); 6] {
-    let [opened, silent, forged] = carried();
-    let [low, high] = uncarried();
-    [
-        ("round.set", record::bytes([set_record(FOUR)])),
-        ("opened.bin", opened),
-        ("silent.bin", silent),
-        ("forged.bin", forged),
-        ("uncarried-low.bin", low),
-        ("uncarried-high.bin", high),
-    ]
-}
-
-/// Every record of the boards, as the product's definitions write it: the kind, and the figures that it names.
-pub fn records() -> String {
-    let mut lines = BTreeSet::new();
-    for (_, bytes) in &files()[1..] {
-        for record in bytes.chunks_exact(SIZE).map(record::read) {
-            let figures = match record[0] {
-                KEY => format!("key {} {}", record[2], record[3]),
-                OPENING => format!("opening {} {}", record[1], record[3]),
-                kind => {
-                    let (name, end) = if kind == LINE {
-                        ("line", 7)
-                    } else {
-                        ("share", 6)
-                    };
-                    let figures = record[1..end].iter().map(u32::to_string);
-                    format!("{name} {}", figures.collect::<Vec<_>>().join(" "))
-                }
-            };
-            lines.insert(figures + "\n");
-        }
-    }
-    lines.into_iter().collect()
+    let (parts, boards) = made();
+    let [opened, silent, forged, low, high] = boards.map(|b| (b.file, parts.bytes(&b)));
+    let set = (SET_FILE, record::bytes([set_record(FOUR)]));
+    [set, opened, silent, forged, low, high]
 }
 
 #[cfg(test)]
@@ -145,6 +148,17 @@ mod tests {
     use super::*;
     use crate::board::{judge_board, Secret, Verdict};
     use crate::group::H;
+    use crate::record::LINE;
+
+    fn carried() -> [Vec<u8>; 3] {
+        let [_, (_, opened), (_, silent), (_, forged), ..] = files();
+        [opened, silent, forged]
+    }
+
+    fn uncarried() -> [Vec<u8>; 2] {
+        let [.., (_, low), (_, high)] = files();
+        [low, high]
+    }
 
     /// The secrets of dealers 1 and 2, and the draw value.
     fn secrets(board: &[u8]) -> ([Secret; 2], u32) {

@@ -5,8 +5,10 @@ mod answer;
 mod bench;
 mod board;
 mod dealing;
+mod definitions;
 mod draw;
 mod equality;
+mod example;
 mod forge;
 mod group;
 mod message;
@@ -17,6 +19,7 @@ mod primes;
 mod record;
 mod replay;
 mod round;
+mod rounds;
 mod sha256;
 mod share;
 mod sharing;
@@ -25,6 +28,7 @@ mod vectors;
 use round::Figures;
 use std::error::Error;
 use std::io::{self, BufWriter, Write};
+use std::num::ParseIntError;
 use std::path::Path;
 use std::process::ExitCode;
 use std::{env, fs};
@@ -33,7 +37,7 @@ type Done = Result<(), Box<dyn Error>>;
 
 const USAGE: &str =
     "usage: reference vectors DIR | forge DIR | example DIR | draw DIR | largest | digest FILE
-       reference board GROUP N T opened|recovered DIR | case FILE
+       reference rounds DIR | board GROUP N T opened|recovered DIR | case FILE
        reference repeat OPERATION COUNT DIR | replay FILE";
 
 /// The primes p and q of group 3: the largest below 2^32.
@@ -60,22 +64,27 @@ fn write_files(folder: &str, files: &[(&str, Vec<u8>)]) -> Done {
     Ok(())
 }
 
+fn figures(number: &str, n: &str, t: &str) -> Result<Figures, ParseIntError> {
+    Ok(Figures {
+        number: number.parse()?,
+        n: n.parse()?,
+        t: t.parse()?,
+    })
+}
+
 fn run(words: &[String]) -> Done {
     let words: Vec<&str> = words.iter().map(String::as_str).collect();
     match words[..] {
         ["vectors", folder] => write_vectors(Path::new(folder))?,
         ["forge", folder] => {
             write_files(folder, &forge::files())?;
-            write_files(folder, &[("records", forge::records().into_bytes())])?;
+            write_files(folder, &[("definitions", definitions::text().into_bytes())])?;
         }
-        ["example", folder] => write_files(folder, &draw::example())?,
-        ["draw", folder] => print!("{}", draw::text_of(Path::new(folder))?),
+        ["example", folder] => write_files(folder, &example::files())?,
+        ["draw", folder] => print!("{}", draw::text_of(Path::new(folder))),
+        ["rounds", folder] => println!("{}", rounds::write(Path::new(folder))?),
         ["board", number, n, t, source, folder] => {
-            let figures = Figures {
-                number: number.parse()?,
-                n: n.parse()?,
-                t: t.parse()?,
-            };
+            let figures = figures(number, n, t)?;
             write_files(folder, &bench::round(figures, source == "opened"))?;
         }
         ["case", file] => io::stdout().write_all(&bench::case(&fs::read(file)?))?,

@@ -1,19 +1,20 @@
--- `keys` meets its contract. The loop's invariant: the first i places hold the keys of the first i members.
-use mathlib.Core.Path.{_≡_, refl, ap, _∙_}
+-- `board_keys` meets its contract. The loop's invariant: the array holds the keys of the first i members, and 0 behind.
+use mathlib.Core.Path.{_≡_, ap, _∙_}
 use mathlib.Core.Bool.{true}
 use mathlib.Core.List.{List}
 use Prim.Native.Nat.{ℕ, _+_, _-_, _*_, _<_, _≤_}
 use native.Mathlib.Omega.{arith}
 use borrow.Author.Needs.{needs}
 use borrow.Author.Tests.{ltb-true}
-use Rattle.words.specs.Lists.{all}
+use Rattle.words.specs.Lists.{all, filled}
 use Rattle.words.specs.Bytes.{wordAt}
+use Rattle.words.proofs.Lists.{filled-none}
 use Rattle.sharing.specs.Round.{members}
 use Rattle.posted.proofs.Members.{members-exactly}
-use Rattle.posted.proofs.Filled.{HoldsFirst, holds-none, holds-next, holds-all}
+use Rattle.posted.proofs.Filled.{members-next}
 use Rattle.posted.proofs.Columns.{word-in}
 use Rattle.board.specs.Search.{recordsIn}
-use Rattle.board.specs.Board.{keyRecord, hasKey, keyIn}
+use Rattle.board.specs.Board.{keyRecord, hasKey, keyIn, keysIn}
 use Rattle.board.proofs.keys.board_keys.Statement.{statement}
 use Rattle.board.proofs.keys.board_keys.Tie as tie
 
@@ -21,13 +22,13 @@ key-inside : (b : List ℕ) (n i : ℕ) → all (hasKey b) (members n) ≡ true 
 key-inside b n i e h = ltb-true _ _ (members-exactly (hasKey b) n .0 e (i + 1) (omega arith) (omega arith))
 
 abbrev Inv-loop : tie.InvT-loop
-Inv-loop b n ys₀ i₀ ys i = (i ≤ n) × HoldsFirst (keyIn b) i ys
+Inv-loop b n ys₀ i₀ ys i = (i ≤ n) × (ys ≡ filled 31 (keysIn i b))
 
 abbrev μ-loop : tie.MeasureT-loop
 μ-loop b n ys₀ i₀ ys i = n - i
 
 loop-holds : tie.Need-loop-holds Inv-loop μ-loop
-loop-holds c = (search needs, holds-none _ _ refl)
+loop-holds c = (search needs, filled-none 31)
 
 cast-at : tie.Need-cast-at Inv-loop μ-loop
 cast-at c = search needs
@@ -72,13 +73,13 @@ loop-again c =
     let b = c .before .before .before .before .before .args .b .now in
     let key = c .word-at .ensures
     ∙ ap (λ (k : ℕ). wordAt b (32 * k + 12)) (c .before .find-key .ensures) ∙ word-in b (keyRecord b (l .i + 1)) 3 (omega arith) in
-    (search needs, holds-next _ (l .i) (l .inv .1) (omega arith) key)
+    (search needs, members-next _ (l .i) (l .inv .1) (omega arith) key)
 
 returns : tie.Need-returns Inv-loop μ-loop
 returns c =
     let l = c .before .loop in
     let end : l .i ≡ c .before .before .before .args .n = omega arith in
-    holds-all _ (l .i) (l .inv .1) end
+    rw end at (l .inv .1)
 
 pub board-keys-spec : {M : Type 1} → statement M
 board-keys-spec =

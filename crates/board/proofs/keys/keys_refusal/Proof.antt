@@ -7,20 +7,21 @@ use native.Mathlib.Nat.{sub-zero}
 use borrow.Author.Needs.{needs}
 use borrow.Author.Tests.{not-true, not-false}
 use lib.ListN.{take}
-use Rattle.words.specs.Lists.{all}
+use Rattle.words.specs.Lists.{all, filled}
 use Rattle.group.specs.declared.Group.{Group}
 use Rattle.sharing.specs.Round.{groupIn}
 use Rattle.sharing.specs.declared.Round.{Round}
 use Rattle.posted.specs.Records.{isKey}
-use Rattle.board.specs.Board.{keysIn}
+use Rattle.posted.proofs.Filled.{members-front}
+use Rattle.board.specs.Board.{keyIn, keysIn}
 use Rattle.board.proofs.keys.keys_refusal.Statement.{statement}
 use Rattle.board.proofs.keys.keys_refusal.Tie as tie
 
 -- the test of the array's first n is the test of the members' keys
-keys-tested : (R : Round) (b ys : List ℕ) {G : Group} {r : Bool} → groupIn R ≡ G → take (R .n) ys ≡ keysIn (R .n) b
+keys-tested : (R : Round) (b ys : List ℕ) {G : Group} {r : Bool} → groupIn R ≡ G → ys ≡ filled 31 (keysIn (R .n) b)
     → r ≡ all (isKey G) (take (R .n - 0) ys) → all (isKey (groupIn R)) (keysIn (R .n) b) ≡ r
 keys-tested R b ys {G} e f t =
-    (λ j. all (isKey (e j)) (sym f j)) ∙ ap (λ (m : ℕ). all (isKey G) (take m ys)) (sym (sub-zero (R .n))) ∙ sym t
+    (λ j. all (isKey (e j)) (sym (members-front (keyIn b) (R .n) f) j)) ∙ ap (λ (m : ℕ). all (isKey G) (take m ys)) (sym (sub-zero (R .n))) ∙ sym t
 
 has-keys-requires : tie.Need-has-keys-requires
 has-keys-requires c κs = search needs

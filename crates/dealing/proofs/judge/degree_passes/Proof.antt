@@ -5,9 +5,11 @@ use native.Mathlib.Omega.{arith}
 use borrow.Author.Needs.{needs}
 use lib.Dec.{eqb}
 use lib.ListN.{length}
+use Rattle.words.proofs.Lists.{filled-front}
 use Rattle.sharing.proofs.Rounds.{ready}
 use Rattle.sharing.specs.Answer.{degreeProduct}
 use Rattle.dealing.specs.Dealing.{vIn, YIn, vsIn}
+use Rattle.posted.proofs.Filled.{members-front}
 use Rattle.posted.proofs.Challenges.{check-polynomial}
 use Rattle.dealing.proofs.Entries.{figures-length, holds-each, polynomial-same}
 use Rattle.dealing.proofs.Sizes.{group-proper, members-few}
@@ -59,7 +61,8 @@ slice-aggregate-degree-product-2 : tie.Need-slice-aggregate-degree-product-2
 slice-aggregate-degree-product-2 c =
     let p = c .before .before .before in
     let s = p .before .before .before .before .before .before .before in
-    sym (ap length (p .check-polynomial .ensures) ∙ check-polynomial (s .args .rd) (s .pre .0) (s .args .d) _ _ .size)
+    let k = check-polynomial (s .args .rd) (s .pre .0) (s .args .d) _ _ .size in
+    sym (ap length (filled-front 31 _ _ k (p .check-polynomial .ensures)) ∙ k)
 
 degree-product-requires : tie.Need-degree-product-requires
 degree-product-requires c κs =
@@ -78,7 +81,8 @@ returns c =
     let a = s .args in
     let b = a .lines .now in
     let same = polynomial-same (a .rd) (a .d) (holds-each (vIn b) _ _ (v .column .ensures)) (holds-each (YIn b) _ _ (e .column2 .ensures)) in
-    let product = d .degree-product .ensures ∙ (λ j. degreeProduct (a .gr) (a .rd .n) (v .column .ensures j) ((p .check-polynomial .ensures ∙ same) j)) in
+    let own = filled-front 31 _ _ (check-polynomial (a .rd) (s .pre .0) (a .d) _ _ .size) (p .check-polynomial .ensures) ∙ same in
+    let product = d .degree-product .ensures ∙ (λ j. degreeProduct (a .gr) (a .rd .n) (members-front (vIn b) (a .rd .n) (v .column .ensures) j) (own j)) in
     ap (λ (x : ℕ). eqb x 1) product
 
 pub degree-passes-spec : {M : Type 1} → statement M

@@ -1,17 +1,20 @@
--- `recomputed` meets its contract. The loop's invariant: two arrays hold the announcements of the first i members' lines.
+-- `recomputed` meets its contract. The loop's invariant: two arrays hold the announcements of the first i members' lines, and 0 behind.
 use mathlib.Core.List.{List}
-use mathlib.Core.Path.{_≡_, refl, _∙_}
+use mathlib.Core.Path.{_≡_, _∙_}
 use Prim.Native.Nat.{ℕ, _-_, _≤_, _<_}
 use native.Mathlib.Omega.{arith}
 use borrow.Author.Needs.{needs}
+use Rattle.words.specs.Lists.{map, filled}
+use Rattle.words.proofs.Lists.{filled-none}
 use Rattle.group.specs.Element.{Proper}
 use Rattle.group.specs.declared.Group.{Group}
+use Rattle.sharing.specs.Round.{members}
 use Rattle.sharing.proofs.Rounds.{ready}
 use Rattle.dealing.specs.Dealing.{vIn, YIn, rIn, cIn, recomputed}
 use Rattle.equality.specs.Equality.{announced}
 use Rattle.posted.specs.Message.{challengeOf, dealingMessage}
 use Rattle.posted.specs.Records.{entry}
-use Rattle.posted.proofs.Filled.{HoldsFirst, holds-none, holds-next, holds-all}
+use Rattle.posted.proofs.Filled.{members-next}
 use Rattle.posted.proofs.Members.{entry-at}
 use Rattle.posted.proofs.Columns.{record-of}
 use Rattle.dealing.proofs.Entries.{holds-each, dealing-same}
@@ -28,7 +31,7 @@ secondOf G ys b i = announced G (entry ys i) (YIn b i) (cIn b i) (rIn b i)
 
 abbrev Inv-loop : tie.InvT-loop
 Inv-loop gr rd d ys lines n vs es a1s₀ a2s₀ i₀ a1s a2s i =
-    (i ≤ n) × (n ≤ 31) × HoldsFirst (firstOf gr lines) i a1s × HoldsFirst (secondOf gr ys lines) i a2s
+    (i ≤ n) × (n ≤ 31) × (a1s ≡ filled 31 (map (firstOf gr lines) (members i))) × (a2s ≡ filled 31 (map (secondOf gr ys lines) (members i)))
 
 abbrev μ-loop : tie.MeasureT-loop
 μ-loop gr rd d ys lines n vs es a1s₀ a2s₀ i₀ a1s a2s i = n - i
@@ -52,7 +55,7 @@ column-requires-2 c κs =
 loop-holds : tie.Need-loop-holds Inv-loop μ-loop
 loop-holds c =
     let s = c .before .before .before .before .before in
-    (omega arith, ready (s .args .rd) (s .pre .0) .at-most, holds-none _ _ refl, holds-none _ _ refl)
+    (omega arith, ready (s .args .rd) (s .pre .0) .at-most, filled-none 31, filled-none 31)
 
 record-at-requires : tie.Need-record-at-requires Inv-loop μ-loop
 record-at-requires c κs = search needs
@@ -106,8 +109,8 @@ loop-again c =
     let key = entry-at (a .ys .now) (l .i) in (
       omega (arith, t .loop-test .taken),
       l .inv .1,
-      holds-next _ (l .i) (l .inv .2) h (a1 .announced .ensures ∙ (λ j. announced G (G .g .0) (line j .w3) (line j .w6) (line j .w5))),
-      holds-next _ (l .i) (l .inv .3) h (c .announced2 .ensures ∙ (λ j. announced G (key j) (line j .w4) (line j .w6) (line j .w5))),
+      members-next _ (l .i) (l .inv .2) h (a1 .announced .ensures ∙ (λ j. announced G (G .g .0) (line j .w3) (line j .w6) (line j .w5))),
+      members-next _ (l .i) (l .inv .3) h (c .announced2 .ensures ∙ (λ j. announced G (key j) (line j .w4) (line j .w6) (line j .w5))),
     )
 
 dealing-challenge-requires : tie.Need-dealing-challenge-requires Inv-loop μ-loop
@@ -130,7 +133,7 @@ returns c =
     let end : l .i ≡ R .n = omega (arith, t .loop-test .left) in
     c .dealing-challenge .ensures
     ∙ dealing-same R (a .d) (holds-each (vIn b) _ _ (v .column .ensures)) (holds-each (YIn b) _ _ (e .column2 .ensures))
-    (holds-each _ _ _ (holds-all _ (l .i) (l .inv .2) end)) (holds-each _ _ _ (holds-all _ (l .i) (l .inv .3) end))
+    (holds-each (firstOf (a .gr) b) _ _ (rw end at (l .inv .2))) (holds-each (secondOf (a .gr) (a .ys .now) b) _ _ (rw end at (l .inv .3)))
     ∙ (λ j. challengeOf R (dealingMessage R (a .d) (vIn b) (YIn b) (firstOf (s .pre .1 j) b) (secondOf (s .pre .1 j) (a .ys .now) b)))
 
 pub recomputed-spec : {M : Type 1} → statement M

@@ -1,23 +1,26 @@
--- `powers` meets its contract. The loop's invariant: the first i places hold the powers of the first i members.
-use mathlib.Core.Path.{_≡_, refl, _∙_}
+-- `powers` meets its contract. The loop's invariant: the array holds the powers of the first i members, and 0 behind.
+use mathlib.Core.Path.{_≡_, _∙_}
 use Prim.Native.Nat.{_-_, _≤_}
 use native.Mathlib.Omega.{arith}
 use borrow.Author.Needs.{needs}
+use Rattle.words.specs.Lists.{map, filled}
+use Rattle.words.proofs.Lists.{filled-none}
 use Rattle.group.specs.Power.{pow}
+use Rattle.sharing.specs.Round.{members}
 use Rattle.posted.proofs.Members.{entry-at}
-use Rattle.posted.proofs.Filled.{HoldsFirst, holds-none, holds-next, holds-all}
+use Rattle.posted.proofs.Filled.{members-next}
 use Rattle.dealt.proofs.Arrays.{powerOf}
 use Rattle.dealt.proofs.writer.powers.Statement.{statement}
 use Rattle.dealt.proofs.writer.powers.Tie as tie
 
 abbrev Inv-loop : tie.InvT-loop
-Inv-loop gr bs es n rs₀ i₀ rs i = (i ≤ n) × HoldsFirst (powerOf gr bs es) i rs
+Inv-loop gr bs es n rs₀ i₀ rs i = (i ≤ n) × (rs ≡ filled 31 (map (powerOf gr bs es) (members i)))
 
 abbrev μ-loop : tie.MeasureT-loop
 μ-loop gr bs es n rs₀ i₀ rs i = n - i
 
 loop-holds : tie.Need-loop-holds Inv-loop μ-loop
-loop-holds c = (omega arith, holds-none _ _ refl)
+loop-holds c = (omega arith, filled-none 31)
 
 mul-t9 : tie.Need-mul-t9 Inv-loop μ-loop
 mul-t9 c = search needs
@@ -52,13 +55,13 @@ loop-again c =
     let a = o .before .before .before .args in
     let l = o .loop in
     let power = c .power .ensures ∙ (λ j. pow (a .gr .p) (entry-at (a .bs .now) (l .i) j) (entry-at (a .es .now) (l .i) j)) in
-    (omega arith, holds-next _ (l .i) (l .inv .1) (omega arith) power)
+    (omega arith, members-next _ (l .i) (l .inv .1) (omega arith) power)
 
 returns : tie.Need-returns Inv-loop μ-loop
 returns c =
     let l = c .before .loop in
     let end : l .i ≡ c .before .before .before .before .args .n = omega arith in
-    holds-all _ (l .i) (l .inv .1) end
+    rw end at (l .inv .1)
 
 pub powers-spec : {M : Type 1} → statement M
 powers-spec =

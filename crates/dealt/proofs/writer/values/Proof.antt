@@ -1,21 +1,24 @@
--- `values` meets its contract. The loop's invariant: the first i places hold the polynomial's values at the first i members.
-use mathlib.Core.Path.{_≡_, refl}
+-- `values` meets its contract. The loop's invariant: the array holds the polynomial's values at the first i members, and 0 behind.
+use mathlib.Core.Path.{_≡_}
 use Prim.Native.Nat.{_-_, _≤_}
 use native.Mathlib.Omega.{arith}
 use borrow.Author.Needs.{needs}
+use Rattle.words.specs.Lists.{map, filled}
+use Rattle.words.proofs.Lists.{filled-none}
 use Rattle.field.specs.Polynomial.{valueAt}
-use Rattle.posted.proofs.Filled.{HoldsFirst, holds-none, holds-next, holds-all}
+use Rattle.sharing.specs.Round.{members}
+use Rattle.posted.proofs.Filled.{members-next}
 use Rattle.dealt.proofs.writer.values.Statement.{statement}
 use Rattle.dealt.proofs.writer.values.Tie as tie
 
 abbrev Inv-loop : tie.InvT-loop
-Inv-loop gr cs n xs₀ i₀ xs i = (i ≤ n) × HoldsFirst (valueAt (gr .q) cs) i xs
+Inv-loop gr cs n xs₀ i₀ xs i = (i ≤ n) × (xs ≡ filled 31 (map (valueAt (gr .q) cs) (members i)))
 
 abbrev μ-loop : tie.MeasureT-loop
 μ-loop gr cs n xs₀ i₀ xs i = n - i
 
 loop-holds : tie.Need-loop-holds Inv-loop μ-loop
-loop-holds c = (omega arith, holds-none _ _ refl)
+loop-holds c = (omega arith, filled-none 31)
 
 cast-value-at : tie.Need-cast-value-at Inv-loop μ-loop
 cast-value-at c = search needs
@@ -41,13 +44,13 @@ loop-less c = search needs
 loop-again : tie.Need-loop-again Inv-loop μ-loop
 loop-again c =
     let l = c .before .before .loop in
-    (omega arith, holds-next _ (l .i) (l .inv .1) (omega arith) (c .value-at .ensures))
+    (omega arith, members-next _ (l .i) (l .inv .1) (omega arith) (c .value-at .ensures))
 
 returns : tie.Need-returns Inv-loop μ-loop
 returns c =
     let l = c .before .loop in
     let end : l .i ≡ c .before .before .before .args .n = omega arith in
-    holds-all _ (l .i) (l .inv .1) end
+    rw end at (l .inv .1)
 
 pub values-spec : {M : Type 1} → statement M
 values-spec =

@@ -1,15 +1,15 @@
--- `check_polynomial` meets its contract. The loop's invariant: the first k places hold the first k coefficients.
-use mathlib.Core.Path.{_≡_, refl, ap, _∙_}
+-- `check_polynomial` meets its contract. The loop's invariant: the array holds the first k coefficients, and 0 behind.
+use mathlib.Core.Path.{_≡_, ap, _∙_}
 use Prim.Native.Nat.{ℕ, _+_, _-_, _≤_}
 use native.Mathlib.Omega.{arith}
 use borrow.Author.Needs.{needs}
-use lib.ListN.{length, take}
-use Rattle.words.specs.Lists.{map, upFrom}
+use Rattle.words.specs.Lists.{map, upFrom, filled}
+use Rattle.words.proofs.Lists.{filled-none}
 use Rattle.sharing.specs.declared.Round.{Round}
 use Rattle.sharing.proofs.Rounds.{ready}
 use Rattle.posted.specs.Records.{entry}
 use Rattle.posted.specs.Message.{challengeOf, coefficientMessage, checkPolynomial}
-use Rattle.posted.proofs.Filled.{filled-next}
+use Rattle.posted.proofs.Filled.{run-next}
 use Rattle.posted.proofs.message.check_polynomial.Statement.{statement}
 use Rattle.posted.proofs.message.check_polynomial.Tie as tie
 
@@ -18,7 +18,7 @@ coefficientOf R d v Y k = challengeOf R (coefficientMessage R d v Y k)
 
 abbrev Inv-loop : tie.InvT-loop
 Inv-loop gr rd d vs es cs₀ count k₀ cs k =
-    (k ≤ count) × (count ≤ 31) × (length cs ≡ 31) × (take k cs ≡ map (coefficientOf rd d (entry vs) (entry es)) (upFrom 0 k))
+    (k ≤ count) × (count ≤ 31) × (cs ≡ filled 31 (map (coefficientOf rd d (entry vs) (entry es)) (upFrom 0 k)))
 
 abbrev μ-loop : tie.MeasureT-loop
 μ-loop gr rd d vs es cs₀ count k₀ cs k = count - k
@@ -27,7 +27,7 @@ sub-count : tie.Need-sub-count Inv-loop μ-loop
 sub-count c = ready _ (c .before .pre .0) .enough
 
 loop-holds : tie.Need-loop-holds Inv-loop μ-loop
-loop-holds c = (omega arith, omega (arith, ready _ (c .before .pre .0) .at-most), refl, refl)
+loop-holds c = (omega arith, omega (arith, ready _ (c .before .pre .0) .at-most), filled-none 31)
 
 coefficient-requires : tie.Need-coefficient-requires Inv-loop μ-loop
 coefficient-requires c κs = search needs
@@ -53,7 +53,7 @@ loop-again c =
     let a = c .before .before .before .before .args in
     let f = coefficientOf (a .rd) (a .d) (entry (a .vs .now)) (entry (a .es .now)) in
     let e : l .k ≡ 0 + l .k = omega arith in
-    (omega arith, l .inv .1, search needs, filled-next f 0 (l .k) _ (l .cs) (omega arith) (l .inv .3) (c .coefficient .ensures ∙ ap f e))
+    (omega arith, l .inv .1, run-next f 0 (l .k) (l .inv .2) (omega arith) (c .coefficient .ensures ∙ ap f e))
 
 returns : tie.Need-returns Inv-loop μ-loop
 unfolding checkPolynomial
@@ -61,7 +61,7 @@ returns c =
     let l = c .before .loop in
     let a = c .before .before .before .args in
     let e : l .k ≡ a .rd .n - a .rd .t = omega arith in
-    rw (← e) (l .inv .3)
+    rw e at (l .inv .2)
 
 pub check-polynomial-spec : {M : Type 1} → statement M
 check-polynomial-spec =

@@ -1,17 +1,16 @@
--- `schedule` fills the array. Invariant: its first t words are those of the definition.
-use mathlib.Core.Path.{_≡_, sym, _∙_}
+-- `schedule` fills the array. Invariant: it holds the first t words of the definition, and 0 behind them.
+use mathlib.Core.Path.{_≡_}
 use Prim.Native.Nat.{_-_, _≤_}
 use native.Mathlib.Omega.{arith}
 use borrow.Author.Needs.{needs}
-use lib.ListN.{length, take}
-use lib.Seq.{take-all}
+use Rattle.words.specs.Lists.{filled}
 use Rattle.sha256.specs.Hash.{schedule}
-use Rattle.sha256.proofs.ScheduleWords.{later-next}
+use Rattle.sha256.proofs.ScheduleWords.{words-all, later-next}
 use Rattle.sha256.proofs.schedule.schedule.Statement.{statement}
 use Rattle.sha256.proofs.schedule.schedule.Tie as tie
 
 abbrev Inv-loop : tie.InvT-loop
-Inv-loop m w₀ t₀ w t = (16 ≤ t) × (t ≤ 64) × (length w ≡ 64) × (take t w ≡ schedule m t)
+Inv-loop m w₀ t₀ w t = (16 ≤ t) × (t ≤ 64) × (w ≡ filled 64 (schedule m t))
 
 abbrev μ-loop : tie.MeasureT-loop
 μ-loop m w₀ t₀ w t = 64 - t
@@ -40,13 +39,13 @@ loop-less c = search needs
 loop-again : tie.Need-loop-again Inv-loop μ-loop
 loop-again c =
     let l = c .before .before .before .loop in
-    (search needs, search needs, search needs, later-next _ (l .w) (l .t) _ (omega arith) (l .inv .3) (l .inv .0) (c .later-word .ensures))
+    (search needs, search needs, later-next _ (l .w) (l .t) (l .inv .2) _ (omega arith) (l .inv .0) (c .later-word .ensures))
 
 returns : tie.Need-returns Inv-loop μ-loop
 returns c =
     let l = c .before .loop in
     let e : l .t ≡ 64 = omega arith in
-    sym (take-all 64 (l .w) (omega arith)) ∙ rw e at (l .inv .3)
+    words-all _ (l .w) (l .t) (l .inv .2) e
 
 pub schedule-spec : {M : Type 1} → statement M
 schedule-spec =

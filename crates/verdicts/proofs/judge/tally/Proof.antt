@@ -1,15 +1,17 @@
 -- `tally` meets its contract. The loop's invariant: what is held is the tally of the dealers above d, and the array holds the board's keys.
 use mathlib.Core.Path.{_≡_, ap, _∙_, subst}
-use Prim.Native.Nat.{ℕ, _-_, _<_, _≤_}
+use Prim.Native.Nat.{ℕ, _<_, _≤_}
 use native.Mathlib.Omega.{arith}
 use native.Mathlib.Nat.{sub-zero}
 use borrow.Author.Needs.{needs}
 use lib.ListN.{take}
+use Rattle.words.specs.Lists.{filled}
 use Rattle.words.specs.Checks.{Met}
 use Rattle.group.specs.declared.Group.{Group}
 use Rattle.sharing.specs.Round.{groupIn}
 use Rattle.sharing.proofs.Rounds.{ready}
-use Rattle.board.specs.Board.{keysIn, boardChecks}
+use Rattle.posted.proofs.Filled.{members-front}
+use Rattle.board.specs.Board.{keyIn, keysIn, boardChecks}
 use Rattle.verdicts.specs.Verdict.{judges, verdictOn}
 use Rattle.board.proofs.Order.{reached}
 use Rattle.verdicts.proofs.Seats.{Tallied, tallied-start, tallied-next, count-most}
@@ -19,7 +21,7 @@ use Rattle.verdicts.proofs.judge.tally.Tie as tie
 
 abbrev Inv-loop : tie.InvT-loop
 Inv-loop gr rd b n ys seats₀ accepted₀ stuck₀ product₀ d₀ seats accepted stuck product d =
-    (groupIn rd ≡ gr) × (Met (boardChecks rd b)) × (take (rd .n) ys ≡ keysIn (rd .n) b) × (rd .n ≤ 31) × (0 < gr .p)
+    (groupIn rd ≡ gr) × (Met (boardChecks rd b)) × (ys ≡ filled 31 (keysIn (rd .n) b)) × (rd .n ≤ 31) × (0 < gr .p)
     × Tallied (verdictOn judges rd b) (gr .p) (rd .n) d seats accepted stuck (product .0)
 
 abbrev μ-loop : tie.MeasureT-loop
@@ -57,7 +59,8 @@ verdict-requires c κs =
     let l = c .before .before .before in
     let k = l .before in
     let i = l .loop .inv in
-    (i .0, i .1, ap (λ (x : ℕ). take x (k .board-keys .result)) (sub-zero (k .before .before .before .args .rd .n)) ∙ i .2)
+    let a = k .before .before .before .args in
+    (i .0, i .1, ap (λ (x : ℕ). take x (k .board-keys .result)) (sub-zero (a .rd .n)) ∙ members-front (keyIn (a .b .now)) (a .rd .n) (i .2))
 
 count-one-requires : tie.Need-count-one-requires Inv-loop μ-loop
 count-one-requires c κs = search needs

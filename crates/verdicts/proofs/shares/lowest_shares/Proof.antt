@@ -1,19 +1,18 @@
--- `lowest_shares` meets its contract. The loop's invariant: what is found, followed by what the records from i on still give, is the first t of all.
-use mathlib.Core.Path.{_≡_, sym, _∙_, subst}
+-- `lowest_shares` meets its contract. The loop's invariant: what is found is the first t that the records before i give.
+use mathlib.Core.Path.{_≡_, _∙_}
 use mathlib.Core.Logic.{⊎-elim}
-use Prim.Native.Nat.{_+_, _-_, _≤_}
+use Prim.Native.Nat.{_-_, _≤_}
 use native.Mathlib.Omega.{arith}
 use borrow.Author.Needs.{needs}
 use Rattle.board.specs.Search.{recordsIn}
 use Rattle.verdicts.specs.Verdict.{judges}
-use Rattle.verdicts.specs.declared.Lowest.{Lowest}
-use Rattle.verdicts.proofs.Gathering.{Found, found-start, found-next, found-full, found-end}
+use Rattle.verdicts.proofs.Gathering.{heldAt, held-none, held-next, held-full, held-all}
 use Rattle.verdicts.proofs.ShareAnswers.{dealt-ready}
 use Rattle.verdicts.proofs.shares.lowest_shares.Statement.{statement}
 use Rattle.verdicts.proofs.shares.lowest_shares.Tie as tie
 
 abbrev Inv-loop : tie.InvT-loop
-Inv-loop rd b d lines room all found₀ i₀ found i = (all ≡ recordsIn b) × (rd .t ≤ 31) × Found judges rd b d all found i
+Inv-loop rd b d lines room all found₀ i₀ found i = (all ≡ recordsIn b) × (rd .t ≤ 31) × (i ≤ all) × (found ≡ heldAt judges rd b d i)
 
 abbrev μ-loop : tie.MeasureT-loop
 μ-loop rd b d lines room all found₀ i₀ found i = all - i
@@ -28,7 +27,7 @@ loop-holds : tie.Need-loop-holds Inv-loop μ-loop
 loop-holds c =
     let w = c .before .before .before .before in
     let y = dealt-ready (w .pre) in
-    (c .records .ensures, omega (arith, y .enough, y .at-most), found-start judges (w .args .rd) (w .args .b .now) (w .args .d) (c .records .result))
+    (c .records .ensures, omega (arith, y .enough, y .at-most), omega arith, held-none judges (w .args .rd) (w .args .b .now) (w .args .d))
 
 with-share-requires : tie.Need-with-share-requires Inv-loop μ-loop
 with-share-requires c κs =
@@ -44,26 +43,18 @@ loop-less c = search needs
 loop-again : tie.Need-loop-again Inv-loop μ-loop
 loop-again c =
     let l = c .before .before .before .loop in
-    let n = c .before .before .before .before .records .result in
-    let a = c .before .before .before .before .before .before .before .before .args in
-    let rd = a .rd in
-    let b = a .b .now in
-    let t = c .before .before .loop-test .taken in (
+    let e = l .inv .3 in (
       l .inv .0,
       l .inv .1,
-      ⊎-elim
-          (λ q. subst (λ (A : Lowest). Found judges rd b (a .d) n A (l .i + 1)) (sym (q .2 ∙ q .1 .ensures))
-          (found-next judges rd b (a .d) n (l .found) (l .i) (l .inv .2) t (l .inv .1) (q .0 .taken)))
-          (λ q. subst (λ (A : Lowest). Found judges rd b (a .d) n A (l .i + 1)) (sym (q .1))
-          (found-full judges rd b (a .d) n (l .found) (l .i) (l .inv .2) t (q .0 .left)))
+      omega (arith, c .before .before .loop-test .taken),
+      ⊎-elim (λ q. q .2 ∙ q .1 .ensures ∙ held-next _ _ _ _ (l .i) e (l .inv .1) (q .0 .taken)) (λ q. q .1 ∙ held-full _ _ _ _ (l .i) e (q .0 .left))
           (c .if1 .came),
     )
 
 returns : tie.Need-returns Inv-loop μ-loop
 returns c =
     let l = c .before .loop in
-    let a = c .before .before .before .before .before .before .args in
-    found-end judges (a .rd) (a .b .now) (a .d) (c .before .before .records .result) (l .found) (l .i) (l .inv .2) (l .inv .0) (c .loop-test .left) (l .inv .1)
+    held-all _ _ _ _ (l .i) (l .inv .3) (omega (arith, c .loop-test .left, l .inv .0))
 
 pub lowest-shares-spec : {M : Type 1} → statement M
 lowest-shares-spec =

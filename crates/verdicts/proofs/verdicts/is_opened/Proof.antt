@@ -9,6 +9,7 @@ use Rattle.words.specs.declared.Record.{Record}
 use Rattle.sharing.specs.Answer.{checkOutcomeOf}
 use Rattle.sharing.specs.Carried.{isValue}
 use Rattle.posted.specs.Records.{recordAt}
+use Rattle.posted.proofs.Filled.{members-front}
 use Rattle.verdicts.specs.Verdict.{isOpened}
 use Rattle.verdicts.proofs.ShareAnswers.{dealt-ready, lines-length}
 use Rattle.verdicts.proofs.Secrets.{opened-none, opened-told}
@@ -30,7 +31,7 @@ told c =
     ap isValue (c .opening .ensures)
     ∙ opened-told rd b (w .args .d) (w .pre .part)
     (omega (arith, k .before .before .if1 .left, k .before .before .before .records .ensures, f .find-opening .ensures))
-    (ap (λ (x : ℕ). take x (k .column .result)) (sub-zero (rd .n)) ∙ k .column .ensures)
+    (ap (λ (x : ℕ). take x (k .column .result)) (sub-zero (rd .n)) ∙ members-front _ (rd .n) (k .column .ensures))
     (ap (λ (x : Record). x .w3) (c .before .record-at .ensures ∙ ap (recordAt b) (f .find-opening .ensures)))
 
 find-opening-requires : tie.Need-find-opening-requires

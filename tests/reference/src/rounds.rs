@@ -1,0 +1,134 @@
+//! Rounds that `draw` is run on: the files of each in a folder of its own, and the text that it has to print.
+
+mod lengths;
+mod places;
+mod played;
+mod sets;
+
+use crate::draw::{text, BOARD_FILE, SET_FILE};
+use crate::example::Round;
+use std::path::Path;
+use std::{fs, io};
+
+/// What stands where a file is due.
+enum Place {
+    Nothing,
+    Folder,
+    File(Vec<u8>),
+}
+
+impl Place {
+    /// What is read there. A missing file counts as empty. A folder can be opened, but no read of it succeeds, and a
+    /// read that fails counts as the end of the file.
+    fn bytes(&self) -> &[u8] {
+        match self {
+            Place::Nothing | Place::Folder => &[],
+            Place::File(bytes) => bytes,
+        }
+    }
+
+    fn write(&self, path: &Path) -> io::Result<()> {
+        match self {
+            Place::Nothing => Ok(()),
+            Place::Folder => fs::create_dir(path),
+            Place::File(bytes) => fs::write(path, bytes),
+        }
+    }
+}
+
+struct Case {
+    name: String,
+    set: Place,
+    board: Place,
+}
+
+impl Case {
+    fn text(&self) -> String {
+        text(self.set.bytes(), self.board.bytes())
+    }
+
+    /// Writes the files to a folder of the case's name, and the text beside it.
+    fn write(&self, folder: &Path) -> io::Result<()> {
+        let own = folder.join(&self.name);
+        fs::create_dir(&own)?;
+        self.set.write(&own.join(SET_FILE))?;
+        self.board.write(&own.join(BOARD_FILE))?;
+        fs::write(folder.join(format!("{}.text", self.name)), self.text())
+    }
+}
+
+#[derive(Default)]
+struct Cases(Vec<Case>);
+
+impl Cases {
+    /// Adds a case whose text ends in a line that starts so.
+    fn add(&mut self, name: &str, set: Place, board: Place, end: &str) {
+        let name = name.to_string();
+        let case = Case { name, set, board };
+        let text = case.text();
+        let last = text.lines().last().expect("a text has lines");
+        let (name, starts) = (&case.name, last.starts_with(end));
+        assert!(starts, "{name} ends in {last} and not in {end}");
+        self.0.push(case);
+    }
+
+    /// Adds a case of two files.
+    fn files(&mut self, name: &str, round: &Round, end: &str) {
+        let Round { set, board } = round.clone();
+        self.add(name, Place::File(set), Place::File(board), end);
+    }
+
+    /// Adds a case of the same board with another set.
+    fn with_set(&mut self, name: &str, round: &Round, set: Vec<u8>, end: &str) {
+        let board = round.board.clone();
+        self.files(name, &Round { set, board }, end);
+    }
+
+    /// Adds a case of the same set with another board.
+    fn with_board(&mut self, name: &str, round: &Round, board: Vec<u8>, end: &str) {
+        let set = round.set.clone();
+        self.files(name, &Round { set, board }, end);
+    }
+}
+
+fn all() -> Vec<Case> {
+    let mut cases = Cases::default();
+    played::add(&mut cases);
+    places::add(&mut cases);
+    lengths::add(&mut cases);
+    sets::add(&mut cases);
+    cases.0
+}
+
+/// Writes all cases to a folder. Returns how many there are.
+pub fn write(folder: &Path) -> io::Result<usize> {
+    let cases = all();
+    for case in &cases {
+        case.write(folder)?;
+    }
+    Ok(cases.len())
+}
+
+#[cfg(test)]
+mod tests {
+    use super::*;
+    use std::collections::BTreeSet;
+
+    #[test]
+    fn every_case_has_a_name_of_its_own() {
+        let cases = all();
+        let names: BTreeSet<&str> = cases.iter().map(|case| case.name.as_str()).collect();
+        assert_eq!(names.len(), cases.len());
+    }
+
+    /// The last lines of the cases have every number but 7 to 11, which only dealers are refused by.
+    #[test]
+    fn every_ending() {
+        let texts: Vec<String> = all().iter().map(Case::text).collect();
+        let ends = |end: &str| texts.iter().any(|text| text.ends_with(end));
+        for number in [1, 2, 3, 4, 5, 6, 12, 13, 14] {
+            assert!(ends(&format!("refused {number}\n")), "{number}");
+        }
+        assert!(ends("draw 13\n"));
+    }
+}
