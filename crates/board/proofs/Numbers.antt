@@ -1,9 +1,11 @@
 -- No check of a board refuses by the number 0, so the number 0 says that every one is met.
+use mathlib.Core.Path.{_≡_}
 use mathlib.Core.List.{List}
 use Prim.Native.Nat.{ℕ, zero, suc, _<_}
 use native.Mathlib.Omega.{arith}
-use Rattle.words.specs.Checks.{Check, Numbered}
+use Rattle.words.specs.Checks.{Check, Met, Numbered, refusal}
 use Rattle.words.proofs.Lists.{All-append}
+use Rattle.words.proofs.Checks.{none-exactly}
 use Rattle.sharing.specs.declared.Round.{Round}
 use Rattle.board.specs.Search.{recordsIn}
 use Rattle.board.specs.Board.{recordChecks, formChecks, keyChecks, boardChecks}
@@ -15,6 +17,9 @@ module _ (n : ℕ) (b : List ℕ) where
 
   pub form-numbered : Numbered (formChecks n b)
   form-numbered = (omega arith, records-numbered 0 (recordsIn b))
+
+  pub form-met : refusal (formChecks n b) ≡ 0 → Met (formChecks n b)
+  form-met = none-exactly (formChecks n b) form-numbered .0
 
 pub board-numbered : (R : Round) (b : List ℕ) → Numbered (boardChecks R b)
 board-numbered R b = (

@@ -1,14 +1,12 @@
--- What the checks of form and order settle: every record is one of the table, and records ascend. Kind, dealer and member are one
--- number, the rank, that grows from record to record; so equal ranks are one record.
+-- What the checks of form and order settle: every record is one of the table, and every record is above those before it.
 use mathlib.Core.Path.{_≡_, refl, sym, ap, _∙_, subst}
 use mathlib.Core.Bool.{Bool, true, false, _&&_}
 use mathlib.Core.List.{List}
 use mathlib.Core.Logic.{⊎-elim}
-use Prim.Native.Nat.{ℕ, zero, suc, _+_, _-_, _*_, _<_, _≤_}
+use Prim.Native.Nat.{ℕ, zero, suc, _+_, _-_, _<_, _≤_}
 use native.Mathlib.Nat.{eq-or-lt-of-le, le-of-suc-le-suc, not-suc-le-zero}
-use native.Mathlib.Decide.{decLe}
 use native.Mathlib.Omega.{arith}
-use borrow.Author.Tests.{ltb-true, eqb-true, ne-eqb}
+use borrow.Author.Tests.{ltb-true, eqb-true, lt-ltb, eq-eqb, ne-eqb}
 use lib.Dec.{ltb, eqb}
 use Rattle.words.specs.Choice.{pick}
 use Rattle.words.specs.Lists.{all}
@@ -18,12 +16,10 @@ use Rattle.words.proofs.Lists.{All-parts}
 use Rattle.words.proofs.Tests.{false-true, and-true, pick-false}
 use Rattle.sharing.specs.Round.{groupIn, roundChecks, isMember, members}
 use Rattle.sharing.specs.declared.Round.{Round}
-use Rattle.sharing.proofs.Rounds.{ready}
 use Rattle.posted.specs.Records.{isKeyRecord, isLineRecord, isOpeningRecord, isShareRecord, recordAt, isKey}
 use Rattle.posted.proofs.Members.{member-exactly}
-use Rattle.board.specs.Search.{first, recordsIn}
-use Rattle.board.specs.Board.{isShaped, isAbove, recordChecks, formChecks, keyRecord, keysIn, keyChecks, boardChecks}
-use Rattle.board.proofs.Searches.{first-is, first-low}
+use Rattle.board.specs.Search.{recordsIn}
+use Rattle.board.specs.Board.{isShaped, isBelow, isAbove, recordChecks, formChecks, Sorted, keyRecord, keysIn, keyChecks, boardChecks}
 
 -- ---- the checks before verdicts, taken apart
 pub record Formed (R : Round) (b : List ℕ) : Type 0 where
@@ -107,19 +103,56 @@ module _ (n : ℕ) (r : Record) where
       pick-cases true x y e f g = f refl e
       pick-cases false x y e f g = g e
 
--- ---- the rank of a record
-abbrev rank : Record → ℕ
-rank r = r .w0 * 1024 + r .w1 * 32 + r .w2
+-- ---- the order of addresses
+pub data Below (r : Record) (k d m : ℕ) : Type 0 where
+  by-kind : r .w0 < k → Below r k d m
+  by-dealer : r .w0 ≡ k → r .w1 < d → Below r k d m
+  by-member : r .w0 ≡ k → r .w1 ≡ d → r .w2 < m → Below r k d m
 
-above-rank : (n : ℕ) (r s : Record) → n ≤ 31 → Shaped n r → Shaped n s → isAbove r s ≡ true → rank r < rank s
-unfolding isAbove
-above-rank n r s l a b e = by (eqb (r .w0) (s .w0)) (eqb (r .w1) (s .w1)) refl refl e
-  where
-    by : (x y : Bool) → eqb (r .w0) (s .w0) ≡ x → eqb (r .w1) (s .w1) ≡ y
-        → pick x (pick y (ltb (r .w2) (s .w2)) (ltb (r .w1) (s .w1))) (ltb (r .w0) (s .w0)) ≡ true → rank r < rank s
-    by true true k d e = omega (arith, eqb-true (r .w0) (s .w0) k, eqb-true (r .w1) (s .w1) d, ltb-true (r .w2) (s .w2) e)
-    by true false k d e = omega (arith, eqb-true (r .w0) (s .w0) k, ltb-true (r .w1) (s .w1) e)
-    by false y k d e = omega (arith, ltb-true (r .w0) (s .w0) e)
+module _ (r : Record) (k d m : ℕ) where
+  pub below-true : isBelow r k d m ≡ true → Below r k d m
+  unfolding isBelow
+  below-true = by (eqb (r .w0) k) (eqb (r .w1) d) refl refl
+    where
+      by : (x y : Bool) → eqb (r .w0) k ≡ x → eqb (r .w1) d ≡ y
+          → pick x (pick y (ltb (r .w2) m) (ltb (r .w1) d)) (ltb (r .w0) k) ≡ true → Below r k d m
+      by true true e f t = by-member (eqb-true (r .w0) k e) (eqb-true (r .w1) d f) (ltb-true (r .w2) m t)
+      by true false e f t = by-dealer (eqb-true (r .w0) k e) (ltb-true (r .w1) d t)
+      by false y e f t = by-kind (ltb-true (r .w0) k t)
+
+  pub true-below : Below r k d m → isBelow r k d m ≡ true
+  unfolding isBelow
+  true-below (by-kind h) = simp (ne-eqb (r .w0) k (λ e. omega arith)) (lt-ltb (r .w0) k h)
+  true-below (by-dealer e h) = simp (eq-eqb (r .w0) k e, ne-eqb (r .w1) d (λ f. omega arith)) (lt-ltb (r .w1) d h)
+  true-below (by-member e f h) = simp (eq-eqb (r .w0) k e, eq-eqb (r .w1) d f) (lt-ltb (r .w2) m h)
+
+  -- of one kind and dealer the members decide
+  pub below-member : Below r k d m → r .w0 ≡ k → r .w1 ≡ d → r .w2 < m
+  below-member (by-kind h) e f = absurd (omega arith)
+  below-member (by-dealer g h) e f = absurd (omega arith)
+  below-member (by-member g i h) e f = h
+
+below-both : {r s : Record} {k d m : ℕ} → Below r (s .w0) (s .w1) (s .w2) → Below s k d m → Below r k d m
+below-both (by-kind h) (by-kind l) = by-kind (omega arith)
+below-both (by-kind h) (by-dealer e l) = by-kind (omega arith)
+below-both (by-kind h) (by-member e f l) = by-kind (omega arith)
+below-both (by-dealer a h) (by-kind l) = by-kind (omega arith)
+below-both (by-dealer a h) (by-dealer e l) = by-dealer (omega arith) (omega arith)
+below-both (by-dealer a h) (by-member e f l) = by-dealer (omega arith) (omega arith)
+below-both (by-member a c h) (by-kind l) = by-kind (omega arith)
+below-both (by-member a c h) (by-dealer e l) = by-dealer (omega arith) (omega arith)
+below-both (by-member a c h) (by-member e f l) = by-member (omega arith) (omega arith) (omega arith)
+
+-- what is above r and below an address has r below that address
+pub below-trans : (r s : Record) (k d m : ℕ) → isAbove r s ≡ true → isBelow s k d m ≡ true → isBelow r k d m ≡ true
+below-trans r s k d m e f = true-below r k d m (below-both (below-true r (s .w0) (s .w1) (s .w2) e) (below-true s k d m f))
+
+-- of two records of one kind and dealer the later has the higher member
+pub members-rise : {b : List ℕ} → Sorted b → (i j : ℕ) → i < j → j < recordsIn b
+    → recordAt b i .w0 ≡ recordAt b j .w0 → recordAt b i .w1 ≡ recordAt b j .w1 → recordAt b i .w2 < recordAt b j .w2
+members-rise {b} S i j h l =
+    let s = recordAt b j in
+    below-member (recordAt b i) (s .w0) (s .w1) (s .w2) (below-true (recordAt b i) (s .w0) (s .w1) (s .w2) (S .ascends i j h l))
 
 -- ---- every record
 module _ (n : ℕ) (b : List ℕ) where
@@ -131,39 +164,32 @@ module _ (n : ℕ) (b : List ℕ) where
   records-met i (suc m) h x l u =
       ⊎-elim (λ w. subst Next w (h .0, h .1 .0)) (λ w. records-met (suc i) m (h .1 .1) x w (omega arith)) (eq-or-lt-of-le l)
 
+  module _ (form : Met (formChecks n b)) where
+    each-next : (i : ℕ) → i < recordsIn b → Next i
+    each-next i h = records-met 0 (recordsIn b) (form .1) i (omega arith) (omega arith)
+
+    next-above : (i : ℕ) → suc i < recordsIn b → isAbove (recordAt b i) (recordAt b (suc i)) ≡ true
+    next-above i h =
+        let p : i ≡ suc i - 1 = omega arith in
+        ap (λ (j : ℕ). isAbove (recordAt b j) (recordAt b (suc i))) p
+        ∙ sym (pick-false (eqb (suc i) 0) true _ (ne-eqb (suc i) 0 (λ e. omega arith)))
+        ∙ each-next (suc i) h .1
+
+    above : (i j : ℕ) → i < j → j < recordsIn b → isAbove (recordAt b i) (recordAt b j) ≡ true
+    above i zero h l = absurd (not-suc-le-zero h)
+    above i (suc j) h l =
+        let s = recordAt b (suc j) in
+        ⊎-elim
+        (λ w. ap (λ (x : ℕ). isAbove (recordAt b x) s) w ∙ next-above j l)
+        (λ w. below-trans (recordAt b i) (recordAt b j) (s .w0) (s .w1) (s .w2) (above i j w (omega arith)) (next-above j l))
+        (eq-or-lt-of-le (le-of-suc-le-suc h))
+
+    pub form-sorted : Sorted b
+    form-sorted = record { ascends = above }
+
 module _ {R : Round} {b : List ℕ} (F : Formed R b) where
-  each-next : (i : ℕ) → i < recordsIn b → Next (R .n) b i
-  each-next i h = records-met (R .n) b 0 (recordsIn b) (F .form .1) i (omega arith) (omega arith)
-
   pub shapes : (i : ℕ) → i < recordsIn b → Shaped (R .n) (recordAt b i)
-  shapes i h = shaped-true (R .n) (recordAt b i) (each-next i h .0)
+  shapes i h = shaped-true (R .n) (recordAt b i) (each-next (R .n) b (F .form) i h .0)
 
-  next-rank : (i : ℕ) → suc i < recordsIn b → rank (recordAt b i) < rank (recordAt b (suc i))
-  next-rank i h =
-      let p : i ≡ suc i - 1 = omega arith in
-      above-rank (R .n) (recordAt b i) (recordAt b (suc i)) (ready R (F .round) .at-most) (shapes i (omega arith)) (shapes (suc i) h)
-      (ap (λ (j : ℕ). isAbove (recordAt b j) (recordAt b (suc i))) p
-      ∙ sym (pick-false (eqb (suc i) 0) true _ (ne-eqb (suc i) 0 (λ e. omega arith)))
-      ∙ each-next (suc i) h .1)
-
-  pub ranks : (i j : ℕ) → i < j → j < recordsIn b → rank (recordAt b i) < rank (recordAt b j)
-  ranks i zero h l = absurd (not-suc-le-zero h)
-  ranks i (suc j) h l =
-      ⊎-elim
-      (λ w. subst (λ y. rank (recordAt b y) < rank (recordAt b (suc j))) (sym w) (next-rank j l))
-      (λ w. let a = ranks i j w (omega arith) in let s = next-rank j l in omega arith)
-      (eq-or-lt-of-le (le-of-suc-le-suc h))
-
-  same-rank : (i j : ℕ) → i < recordsIn b → j < recordsIn b → rank (recordAt b i) ≡ rank (recordAt b j) → i ≡ j
-  same-rank i j h l e = elim (decLe i j) [
-    | yes w ↦ ⊎-elim (λ x. x) (λ x. absurd (let a = ranks i j x l in omega arith)) (eq-or-lt-of-le w)
-    | no w ↦ absurd (let a = ranks j i (omega arith) h in omega arith)
-  ]
-
-  -- a search for records of one rank finds the only one
-  pub only-first : (f : ℕ → Bool) (r : ℕ) → ((i : ℕ) → i < recordsIn b → f i ≡ true → rank (recordAt b i) ≡ r)
-      → (i : ℕ) → i < recordsIn b → f i ≡ true → i ≡ first f 0 (recordsIn b)
-  only-first f r one i h e =
-      let l : first f 0 (recordsIn b) < recordsIn b = omega (arith, first-low f 0 (recordsIn b) i (omega arith) e) in
-      same-rank i (first f 0 (recordsIn b)) h l
-      (one i h e ∙ sym (one (first f 0 (recordsIn b)) l (first-is f 0 (recordsIn b) .here (omega arith))))
+  pub sorted : Sorted b
+  sorted = form-sorted (R .n) b (F .form)

@@ -11,7 +11,7 @@ use lib.ListN.{take}
 use Rattle.words.specs.Choice.{pick}
 use Rattle.words.specs.Lists.{All, Distinct, map, upFrom}
 use Rattle.words.proofs.Lists.{All-to, All-take, map-all, up-within}
-use Rattle.words.proofs.Tests.{false-true}
+use Rattle.words.proofs.Tests.{false-true, pick-false}
 use Rattle.board.specs.Search.{first, filter, Ascending}
 
 -- ---- where a search of the m numbers from i on ends
@@ -57,6 +57,48 @@ filter-up f i m = filter-all f (λ x. (i ≤ x) × (x < i + m)) (upFrom i m) (up
 pub filter-same : (f g : ℕ → Bool) (xs : List ℕ) → All (λ x. f x ≡ g x) xs → filter f xs ≡ filter g xs
 filter-same f g [] h = refl
 filter-same f g (x ∷ xs) h = λ j. pick (h .0 j) (x ∷ filter-same f g xs (h .1) j) (filter-same f g xs (h .1) j)
+
+-- what no number before a run and none after it passes, the run gives whole
+module _ (f : ℕ → Bool) where
+  filter-skip : (i k m : ℕ) → ((x : ℕ) → i ≤ x → x < i + k → f x ≡ false) → filter f (upFrom i (k + m)) ≡ filter f (upFrom (i + k) m)
+  filter-skip i zero m h =
+      let a : 0 + m ≡ m = omega arith in
+      let s : i ≡ i + 0 = omega arith in
+      λ j. filter f (upFrom (s j) (a j))
+  filter-skip i (suc k) m h =
+      let a : suc k + m ≡ suc (k + m) = omega arith in
+      let s : suc i + k ≡ i + suc k = omega arith in
+      ap (λ (x : ℕ). filter f (upFrom i x)) a
+      ∙ pick-false (f i) (i ∷ filter f (upFrom (suc i) (k + m))) (filter f (upFrom (suc i) (k + m))) (h i (omega arith) (omega arith))
+      ∙ filter-skip (suc i) k m (λ x l u. h x (omega arith) (omega arith))
+      ∙ ap (λ (x : ℕ). filter f (upFrom x m)) s
+
+  filter-cut : (i m k : ℕ) → ((x : ℕ) → i + m ≤ x → x < i + m + k → f x ≡ false) → filter f (upFrom i (m + k)) ≡ filter f (upFrom i m)
+  filter-cut i zero k h =
+      let a : 0 + k ≡ k + 0 = omega arith in
+      ap (λ (x : ℕ). filter f (upFrom i x)) a ∙ filter-skip i k 0 (λ x l u. h x (omega arith) (omega arith))
+  filter-cut i (suc m) k h =
+      let a : suc m + k ≡ suc (m + k) = omega arith in
+      ap (λ (x : ℕ). filter f (upFrom i x)) a
+      ∙ ap (λ (l : List ℕ). pick (f i) (i ∷ l) l) (filter-cut (suc i) m k (λ x l u. h x (omega arith) (omega arith)))
+
+  pub filter-run : (s e n : ℕ) → s ≤ e → e ≤ n → ((x : ℕ) → x < n → f x ≡ true → (s ≤ x) × (x < e))
+      → filter f (upFrom s (e - s)) ≡ filter f (upFrom 0 n)
+  filter-run s e n h l in-run =
+      let a : n ≡ s + (e - s + (n - e)) = omega arith in
+      let z : 0 + s ≡ s = omega arith in
+      sym
+      (ap (λ (x : ℕ). filter f (upFrom 0 x)) a
+      ∙ filter-skip 0 s (e - s + (n - e)) (λ x u w. outside x (omega arith) (λ i. omega arith))
+      ∙ filter-cut (0 + s) (e - s) (n - e) (λ x u w. outside x (omega arith) (λ i. omega arith))
+      ∙ ap (λ (x : ℕ). filter f (upFrom x (e - s))) z)
+    where
+      outside : (x : ℕ) → x < n → ((s ≤ x) × (x < e) → ⊥) → f x ≡ false
+      outside x u w = by (f x) refl
+        where
+          by : (t : Bool) → f x ≡ t → f x ≡ false
+          by true e = absurd (w (in-run x u e))
+          by false e = e
 
 -- ---- ascending lists
 -- a figure that grows over the numbers that pass ascends over what is kept of them

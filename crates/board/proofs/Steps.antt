@@ -1,4 +1,4 @@
--- The turns of the loops over a board's records: what a search or the checks from the record i on give, by what they give from the next on.
+-- The turns of the loop over a board's records: what the checks from the record i on give, by what they give from the next on.
 use mathlib.Core.Path.{_≡_, sym, ap, _∙_}
 use mathlib.Core.Bool.{Bool, true, false}
 use mathlib.Core.List.{List}
@@ -11,7 +11,6 @@ use Rattle.words.specs.Checks.{refusal}
 use Rattle.words.specs.declared.Record.{Record}
 use Rattle.words.proofs.Tests.{pick-true, pick-false}
 use Rattle.posted.specs.Records.{recordAt}
-use Rattle.board.specs.Search.{first}
 use Rattle.board.specs.Board.{isShaped, isAbove, recordChecks}
 
 -- ---- counting up to n
@@ -23,20 +22,6 @@ none-left n i h = omega arith
 
 one-more : (i : ℕ) → suc i ≡ i + 1
 one-more i = omega arith
-
--- ---- searches
-module _ (f : ℕ → Bool) (n i : ℕ) where
-  first-turn : i < n → first f i (n - i) ≡ pick (f i) i (first f (i + 1) (n - (i + 1)))
-  first-turn h = ap (first f i) (one-less n i h) ∙ ap (λ (j : ℕ). pick (f i) i (first f j (n - (i + 1)))) (one-more i)
-
-  pub first-next : i < n → f i ≡ false → first f i (n - i) ≡ first f (i + 1) (n - (i + 1))
-  first-next h e = first-turn h ∙ pick-false (f i) i _ e
-
-  pub first-stop : i < n → f i ≡ true → first f i (n - i) ≡ i
-  first-stop h e = first-turn h ∙ pick-true (f i) i _ e
-
-  pub first-end : n ≤ i → first f i (n - i) ≡ i
-  first-end h = ap (first f i) (none-left n i h)
 
 -- ---- form and order
 -- the record i is the first or above the one before

@@ -1,13 +1,13 @@
 -- The board's records: their form and order, the keys, a dealer's lines and opening, and what is refused before verdicts.
+use mathlib.Core.Path.{_≡_}
 use mathlib.Core.Bool.{Bool, true, false, not, _&&_}
 use mathlib.Core.List.{List, [], _∷_, _++_}
-use Prim.Native.Nat.{ℕ, zero, suc, _+_, _-_, _*_, _%_}
-use lib.ListN.{length, getD, take, drop}
+use Prim.Native.Nat.{ℕ, zero, suc, _+_, _-_, _*_, _%_, _<_}
+use lib.ListN.{length, take, drop}
 use lib.Dec.{leb, ltb, eqb}
 use Rattle.words.specs.Choice.{pick}
 use Rattle.words.specs.Lists.{map, all}
 use Rattle.words.specs.Checks.{Check, _unless_, lentAfter}
-use Rattle.words.specs.Bytes.{recordWords}
 use Rattle.words.specs.declared.Record.{Record}
 use Rattle.sharing.specs.Round.{groupIn, roundChecks, isMember, members}
 use Rattle.sharing.specs.declared.Round.{Round}
@@ -23,12 +23,13 @@ isShaped n r =
     (pick (isOpeningRecord r) (isMember n (r .w1))
     (pick (isShareRecord r) (isMember n (r .w1) && isMember n (r .w2)) false)))
 
--- s is above r: by kind, then dealer, then member
-unfoldable pub isAbove : Record → Record → Bool
-isAbove r s =
-    pick (eqb (r .w0) (s .w0))
-    (pick (eqb (r .w1) (s .w1)) (ltb (r .w2) (s .w2)) (ltb (r .w1) (s .w1)))
-    (ltb (r .w0) (s .w0))
+-- a record's address is its kind, dealer and member; r is below the address k, d, m: by kind, then dealer, then member
+unfoldable pub isBelow : Record → ℕ → ℕ → ℕ → Bool
+isBelow r k d m = pick (eqb (r .w0) k) (pick (eqb (r .w1) d) (ltb (r .w2) m) (ltb (r .w1) d)) (ltb (r .w0) k)
+
+-- s is above r
+abbrev pub isAbove : Record → Record → Bool
+isAbove r s = isBelow r (s .w0) (s .w1) (s .w2)
 
 -- record by record, for m records from the record i on: 4, and then 5
 abbrev pub recordChecks : ℕ → List ℕ → ℕ → ℕ → List Check
@@ -42,26 +43,27 @@ recordChecks n b i (suc m) =
 abbrev pub formChecks : ℕ → List ℕ → List Check
 formChecks n b = 3 unless (eqb (length b % 32) 0 && leb (recordsIn b) 2048) ∷ recordChecks n b 0 (recordsIn b)
 
--- ---- records by their kind and one more word
--- the record i has the kind k
-abbrev pub isKind : List ℕ → ℕ → ℕ → Bool
-isKind b k i = eqb (recordAt b i .w0) k
+-- every record is above those before it
+pub record Sorted (b : List ℕ) : Type 0 where
+  pub ascends : (i j : ℕ) → i < j → j < recordsIn b → isAbove (recordAt b i) (recordAt b j) ≡ true
 
--- the record i has the kind k and x as its word j
-unfoldable pub isMatch : List ℕ → ℕ → ℕ → ℕ → ℕ → Bool
-isMatch b k j x i = isKind b k i && eqb (getD (recordWords (recordAt b i)) j 0) x
+-- ---- records by their address
+-- the place of an address: the first record that is not below it, the number of records where there is none
+unfoldable pub placeOf : List ℕ → ℕ → ℕ → ℕ → ℕ
+placeOf b k d m = first (λ i. not (isBelow (recordAt b i) k d m)) 0 (recordsIn b)
 
--- it has, or it has not, as it is wanted
-abbrev pub isSought : List ℕ → ℕ → ℕ → ℕ → Bool → ℕ → Bool
-isSought b k j x want i = pick want (isMatch b k j x i) (not (isMatch b k j x i))
+-- r has the address k, d, m
+unfoldable pub isAt : Record → ℕ → ℕ → ℕ → Bool
+isAt r k d m = eqb (r .w0) k && (eqb (r .w1) d && eqb (r .w2) m)
+
+-- the record with this address, the number of records where there is none
+unfoldable pub recordBy : List ℕ → ℕ → ℕ → ℕ → ℕ
+recordBy b k d m = first (λ i. isAt (recordAt b i) k d m) 0 (recordsIn b)
 
 -- ---- keys
-unfoldable pub isKeyOf : List ℕ → ℕ → ℕ → Bool
-isKeyOf b m i = isKind b 1 i && eqb (recordAt b i .w2) m
-
 -- the record of the key of member m
-unfoldable pub keyRecord : List ℕ → ℕ → ℕ
-keyRecord b m = first (isKeyOf b m) 0 (recordsIn b)
+abbrev pub keyRecord : List ℕ → ℕ → ℕ
+keyRecord b m = recordBy b 1 0 m
 
 -- member m has one
 abbrev pub hasKey : List ℕ → ℕ → Bool
@@ -85,14 +87,12 @@ abbrev pub boardChecks : Round → List ℕ → List Check
 boardChecks R b = roundChecks R ++ (formChecks (R .n) b ++ keyChecks R b)
 
 -- ---- a dealer's lines
-unfoldable pub isLineBy : List ℕ → ℕ → ℕ → Bool
-isLineBy b d i = isKind b 2 i && eqb (recordAt b i .w1) d
+-- members are at most 31, so his lines stand from the place of member 0 to that of member 32
+abbrev pub linesStart : List ℕ → ℕ → ℕ
+linesStart b d = placeOf b 2 d 0
 
-unfoldable pub linesStart : List ℕ → ℕ → ℕ
-linesStart b d = first (isLineBy b d) 0 (recordsIn b)
-
-unfoldable pub linesEnd : List ℕ → ℕ → ℕ
-linesEnd b d = first (λ i. not (isLineBy b d i)) (linesStart b d) (recordsIn b - linesStart b d)
+abbrev pub linesEnd : List ℕ → ℕ → ℕ
+linesEnd b d = placeOf b 2 d 32
 
 unfoldable pub lineCount : List ℕ → ℕ → ℕ
 lineCount b d = linesEnd b d - linesStart b d
@@ -109,7 +109,7 @@ linesChecks R d b = roundChecks R ++ (8 unless isMember (R .n) d ∷ formChecks 
 unfoldable pub linesPart : Round → ℕ → List ℕ → List ℕ
 linesPart R d b = lentAfter (linesChecks R d b) (linesOf b d) []
 
--- how many bytes behind the board's start that part begins: where his lines do, at the start itself where the number is refused
+-- how many bytes behind the board's start that part begins: where his lines do or would, at the start itself where the number is refused
 unfoldable pub linesAt : Round → ℕ → List ℕ → ℕ
 linesAt R d b = lentAfter (linesChecks R d b) (32 * linesStart b d) 0
 
@@ -118,8 +118,5 @@ abbrev pub behind : ℕ → ℕ × ℕ → ℕ × ℕ
 behind k p = (p .0, k + p .1)
 
 -- ---- a dealer's opening
-unfoldable pub isOpeningBy : List ℕ → ℕ → ℕ → Bool
-isOpeningBy b d i = isKind b 3 i && eqb (recordAt b i .w1) d
-
-unfoldable pub openingRecord : List ℕ → ℕ → ℕ
-openingRecord b d = first (isOpeningBy b d) 0 (recordsIn b)
+abbrev pub openingRecord : List ℕ → ℕ → ℕ
+openingRecord b d = recordBy b 3 d 0

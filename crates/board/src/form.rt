@@ -2,7 +2,7 @@
 ghost use mathlib.Core.Path.{_≡_};
 ghost use Rattle.words.specs.Checks.{refusal};
 ghost use Rattle.board.specs.Search.{recordsIn};
-ghost use Rattle.board.specs.Board.{isShaped, isAbove, recordChecks, formChecks};
+ghost use Rattle.board.specs.Board.{isShaped, isBelow, recordChecks, formChecks};
 use crate::search::records;
 use posted::is_key_record;
 use posted::is_line_record;
@@ -31,17 +31,17 @@ fn is_shaped(n: u32, r: Record) -> bool
     false
 }
 
-// Whether s is above r: by kind, then dealer, then member.
-fn is_above(r: Record, s: Record) -> bool
-    ensures { λ a. ⌜ a ≡ isAbove r s ⌝ }
+// Whether r is below the address of kind k, dealer d and member m.
+pub(crate) fn is_below(r: Record, k: u32, d: u32, m: u32) -> bool
+    ensures { λ a. ⌜ a ≡ isBelow r k d m ⌝ }
 {
-    if r.w0 != s.w0 {
-        return r.w0 < s.w0;
+    if r.w0 != k {
+        return r.w0 < k;
     }
-    if r.w1 != s.w1 {
-        return r.w1 < s.w1;
+    if r.w1 != d {
+        return r.w1 < d;
     }
-    r.w2 < s.w2
+    r.w2 < m
 }
 
 // Record by record: 4 a record that is none of the table; 5 a record that is not above the one before. 0 where there is none.
@@ -56,7 +56,7 @@ fn records_refusal(n: u32, b: &[u8]) -> u32
             return 4;
         }
         if i > 0 {
-            if !is_above(record_at(b, i - 1), r) {
+            if !is_below(record_at(b, i - 1), r.w0, r.w1, r.w2) {
                 return 5;
             }
         }

@@ -5,7 +5,7 @@ ghost use Prim.Native.Nat.{_≤_};
 ghost use Rattle.words.specs.Lists.{all, filled};
 ghost use Rattle.words.specs.Checks.{refusal};
 ghost use Rattle.sharing.specs.Round.{groupIn, members};
-ghost use Rattle.board.specs.Board.{hasKey, keysIn, keyChecks, boardChecks};
+ghost use Rattle.board.specs.Board.{Sorted, hasKey, keysIn, keyChecks, boardChecks};
 use crate::form::form_refusal;
 use crate::search::find_key;
 use crate::search::records;
@@ -16,7 +16,9 @@ use sharing::Round;
 use sharing::round_group;
 
 // Whether each member has a key record.
+// Internal: callers ensure that the records ascend.
 fn has_keys(b: &[u8], n: u32) -> bool
+    requires { ⌜ Sorted (now b) ⌝ }
     ensures { λ r. ⌜ r ≡ all (hasKey (now (b .entry))) (members n) ⌝ }
 {
     let mut i: u32 = 0;
@@ -30,9 +32,9 @@ fn has_keys(b: &[u8], n: u32) -> bool
 }
 
 // The members' keys, and 0 behind them.
-// Internal: callers ensure that there are at most 31 members and that each has a key record.
+// Internal: callers ensure that there are at most 31 members, that each has a key record, and that the records ascend.
 pub fn board_keys(b: &[u8], n: u32) -> [u32; 31]
-    requires { ⌜ (n ≤ 31) × (all (hasKey (now b)) (members n) ≡ true) ⌝ }
+    requires { ⌜ (n ≤ 31) × (all (hasKey (now b)) (members n) ≡ true) × (Sorted (now b)) ⌝ }
     ensures { λ r. ⌜ r ≡ filled 31 (keysIn n (now (b .entry))) ⌝ }
 {
     let mut ys = [0u32; 31];
@@ -46,9 +48,9 @@ pub fn board_keys(b: &[u8], n: u32) -> [u32; 31]
 }
 
 // What the keys are refused by: 12 a key missing; 6 a bad key. 0 where they are not.
-// Internal: callers ensure that gr is the round's group and that there are at most 31 members.
+// Internal: callers ensure that gr is the round's group, that there are at most 31 members, and that the records ascend.
 fn keys_refusal(gr: Group, rd: Round, b: &[u8]) -> u32
-    requires { ⌜ (groupIn rd ≡ gr) × (rd .n ≤ 31) ⌝ }
+    requires { ⌜ (groupIn rd ≡ gr) × (rd .n ≤ 31) × (Sorted (now b)) ⌝ }
     ensures { λ r. ⌜ r ≡ refusal (keyChecks rd (now (b .entry))) ⌝ }
 {
     if !has_keys(b, rd.n) {

@@ -11,4 +11,5 @@ pub use lines::lines_check;
 pub use lines::lines_of;
 pub use search::find_key;
 pub use search::find_opening;
+pub use search::place_of;
 pub use search::records;

@@ -4,23 +4,24 @@ ghost use Prim.Native.Nat.{_*_};
 ghost use denote.Ref.{ptr};
 ghost use Rattle.words.specs.Checks.{outcome};
 ghost use Rattle.sharing.specs.Answer.{checkOutcomeOf};
-ghost use Rattle.board.specs.Board.{linesStart, linesOf, linesChecks, linesPart, linesAt, behind};
+ghost use Rattle.board.specs.Board.{Sorted, linesStart, linesOf, linesChecks, linesPart, linesAt, behind};
 use crate::form::form_refusal;
-use crate::search::lines_end;
-use crate::search::lines_start;
+use crate::search::place_of;
 use group::GroupAnswer;
 use sharing::CheckAnswer;
 use sharing::Round;
 use sharing::is_member;
 use sharing::round_group;
 
-// The lines of dealer d as they lie on the board, where nothing is refused.
+// The lines of dealer d as they lie on the board.
+// Internal: callers ensure that the records ascend.
 pub fn lines_of(b: &[u8], d: u32) -> &[u8]
+    requires { ⌜ Sorted (now b) ⌝ }
     ensures { λ r. ⌜ now r ≡ linesOf (now (b .entry)) d ⌝ }
     ensures { λ r. ⌜ ptr r ≡ behind (32 * linesStart (now (b .entry)) d) (ptr (b .entry)) ⌝ }
 {
-    let from = 32 * lines_start(b, d);
-    let to = 32 * lines_end(b, d);
+    let from = 32 * place_of(b, 2, d, 0);
+    let to = 32 * place_of(b, 2, d, 32);
     &b[from..to]
 }
 

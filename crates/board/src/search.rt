@@ -1,8 +1,10 @@
-// Searches over the records of a board. Of each record only its kind and the word that is compared are read.
+// Searches over the records of a board that ascend: places are found by bisection.
 ghost use mathlib.Core.Path.{_≡_};
-ghost use Prim.Native.Nat.{_-_, _<_};
-ghost use Rattle.board.specs.Search.{first, recordsIn};
-ghost use Rattle.board.specs.Board.{isMatch, isSought, keyRecord, openingRecord, linesStart, linesEnd};
+ghost use Rattle.board.specs.Search.{recordsIn};
+ghost use Rattle.board.specs.Board.{Sorted, placeOf, isAt, recordBy, keyRecord, openingRecord};
+use crate::form::is_below;
+use posted::record_at;
+use words::Record;
 
 // The number of records.
 pub fn records(b: &[u8]) -> usize
@@ -11,60 +13,69 @@ pub fn records(b: &[u8]) -> usize
     b.len() / 32
 }
 
-// Whether the record i has the kind k and x as its word j.
-// Internal: callers ensure that there is such a record and such a word.
-fn is_match(b: &[u8], k: u32, j: usize, x: u32, i: usize) -> bool
-    requires { ⌜ (i < recordsIn (now b)) × (j < 8) ⌝ }
-    ensures { λ r. ⌜ r ≡ isMatch (now (b .entry)) k j x i ⌝ }
+// The place of the address of kind k, dealer d and member m: how many records are below it.
+// Internal: callers ensure that the records ascend.
+pub fn place_of(b: &[u8], k: u32, d: u32, m: u32) -> usize
+    requires { ⌜ Sorted (now b) ⌝ }
+    ensures { λ r. ⌜ r ≡ placeOf (now (b .entry)) k d m ⌝ }
 {
-    if words::word_at(b, 32 * i) != k {
-        return false;
+    let mut low = 0;
+    let mut high = records(b);
+    while low < high {
+        let mid = (low + high) / 2;
+        if is_below(record_at(b, mid), k, d, m) {
+            low = mid + 1;
+        } else {
+            high = mid;
+        }
     }
-    words::word_at(b, 32 * i + 4 * j) == x
+    low
 }
 
-// The first record from `from` on that has the kind k and x as its word j, or that has not, as it is wanted;
-// the number of records where there is none.
-// Internal: callers ensure that a record has such a word.
-fn first_of(b: &[u8], k: u32, j: usize, x: u32, want: bool, from: usize) -> usize
-    requires { ⌜ j < 8 ⌝ }
-    ensures { λ r. ⌜ r ≡ first (isSought (now (b .entry)) k j x want) from (recordsIn (now (b .entry)) - from) ⌝ }
+// Whether r has the address of kind k, dealer d and member m.
+fn is_at(r: Record, k: u32, d: u32, m: u32) -> bool
+    ensures { λ a. ⌜ a ≡ isAt r k d m ⌝ }
 {
-    let n = records(b);
-    let mut i = from;
-    while i < n {
-        if is_match(b, k, j, x, i) == want {
-            return i;
-        }
-        i += 1;
+    if r.w0 != k {
+        return false;
     }
-    i
+    if r.w1 != d {
+        return false;
+    }
+    r.w2 == m
+}
+
+// The record with the address of kind k, dealer d and member m, the number of records where there is none.
+// Internal: callers ensure that the records ascend.
+fn record_by(b: &[u8], k: u32, d: u32, m: u32) -> usize
+    requires { ⌜ Sorted (now b) ⌝ }
+    ensures { λ r. ⌜ r ≡ recordBy (now (b .entry)) k d m ⌝ }
+{
+    let all = records(b);
+    let at = place_of(b, k, d, m);
+    if at >= all {
+        return all;
+    }
+    if !is_at(record_at(b, at), k, d, m) {
+        return all;
+    }
+    at
 }
 
 // The record of the key of member m, the number of records where there is none.
+// Internal: callers ensure that the records ascend.
 pub fn find_key(b: &[u8], m: u32) -> usize
+    requires { ⌜ Sorted (now b) ⌝ }
     ensures { λ r. ⌜ r ≡ keyRecord (now (b .entry)) m ⌝ }
 {
-    first_of(b, 1, 2, m, true, 0)
+    record_by(b, 1, 0, m)
 }
 
 // The record of the opening of dealer d, the number of records where there is none.
+// Internal: callers ensure that the records ascend.
 pub fn find_opening(b: &[u8], d: u32) -> usize
+    requires { ⌜ Sorted (now b) ⌝ }
     ensures { λ r. ⌜ r ≡ openingRecord (now (b .entry)) d ⌝ }
 {
-    first_of(b, 3, 1, d, true, 0)
-}
-
-// The first line of dealer d, the number of records where there is none.
-pub(crate) fn lines_start(b: &[u8], d: u32) -> usize
-    ensures { λ r. ⌜ r ≡ linesStart (now (b .entry)) d ⌝ }
-{
-    first_of(b, 2, 1, d, true, 0)
-}
-
-// The record after the lines of dealer d.
-pub(crate) fn lines_end(b: &[u8], d: u32) -> usize
-    ensures { λ r. ⌜ r ≡ linesEnd (now (b .entry)) d ⌝ }
-{
-    first_of(b, 2, 1, d, false, lines_start(b, d))
+    record_by(b, 3, d, 0)
 }

@@ -32,7 +32,7 @@ use Rattle.verdicts.specs.declared.Secret.{Secret}
 use Rattle.verdicts.specs.declared.Secret.the-variants.{Opened, Recovered, Stuck}
 use Rattle.verdicts.specs.declared.Verdict.the-variants.{None, Accepted}
 use Rattle.demand3.specs.Claims.{RightlyOpened, powerOfH, acceptedDealers, VerdictRule, Recoverable, AllRecoverable, SameDealings}
-use Rattle.demand3.proofs.Sources.{share-true}
+use Rattle.verdicts.proofs.ShareAnswers.{share-true}
 use Rattle.demand3.proofs.VerdictCases.{verdict-rules}
 use Rattle.conditions.specs.Boards.{uncarriedLow, uncarriedHigh}
 use Rattle.conditions.specs.Claims.{polynomialOf, ConditionsMet, Judged, AllCarried, AllTrue, CarriedNeeded, TrueNeeded}

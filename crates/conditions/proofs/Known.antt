@@ -24,7 +24,7 @@ use Rattle.sharing.specs.Figures.{small}
 use Rattle.posted.specs.Records.{isKeyRecord, isLineRecord, isOpeningRecord, isShareRecord, entry, recordAt, isKey}
 use Rattle.dealing.specs.Dealing.{vIn, YIn, vsIn}
 use Rattle.board.specs.Search.{recordsIn}
-use Rattle.board.specs.Board.{isShaped, isAbove, isMatch, isKeyOf, keyRecord, keyIn, isLineBy, linesStart, linesEnd, lineCount, linesOf, isOpeningBy, openingRecord, boardChecks}
+use Rattle.board.specs.Board.{isShaped, isBelow, placeOf, isAt, recordBy, keyIn, lineCount, linesOf, boardChecks}
 use Rattle.verdicts.specs.Verdict.{judges, isAccepted, commitmentsOf, shareAnswer, isShareBy, sharesBy, fromShares, isOpened, secretBy, verdictOn}
 use Rattle.verdicts.specs.declared.Secret.{Secret}
 use Rattle.verdicts.specs.declared.Secret.the-variants.{Opened, Recovered, Stuck}
@@ -102,7 +102,7 @@ pub record AllKnown : Type 0 where
   pub second-carried : Carries small (polynomialOf 2) (6 ∷ 18 ∷ 8 ∷ 1 ∷ [])
 
 pub all-known : AllKnown
-unfolding wordAt wordBytes wordsBytes recordBytes recordIn add mul sub inv pow isGroup groupOf isElement isExponent isRound isMember gapsAt weightAt weightsOf lagrangeAt powers degreeProduct degreeOutcome recovered openingOutcome powersAt isKeyRecord isLineRecord isOpeningRecord isShareRecord entry recordAt isKey vIn YIn vsIn isShaped isAbove isMatch isKeyOf keyRecord keyIn isLineBy linesStart linesEnd lineCount linesOf isOpeningBy openingRecord isAccepted shareAnswer isShareBy sharesBy fromShares isOpened secretBy verdictOn
+unfolding wordAt wordBytes wordsBytes recordBytes recordIn add mul sub inv pow isGroup groupOf isElement isExponent isRound isMember gapsAt weightAt weightsOf lagrangeAt powers degreeProduct degreeOutcome recovered openingOutcome powersAt isKeyRecord isLineRecord isOpeningRecord isShareRecord entry recordAt isKey vIn YIn vsIn isShaped isBelow placeOf isAt recordBy keyIn lineCount linesOf isAccepted shareAnswer isShareBy sharesBy fromShares isOpened secretBy verdictOn
 all-known =
     let first = ap isValue (answers .first) in
     let uncarried = ap isValue (answers .uncarried) in

@@ -4,13 +4,13 @@ use mathlib.Core.Path.{_≡_, refl, sym, ap, _∙_}
 use mathlib.Core.Bool.{Bool, true, false}
 use mathlib.Core.List.{List}
 use mathlib.Core.Logic.{_↔_}
-use Prim.Native.Nat.{ℕ, _+_, _*_, _<_, _≤_}
+use Prim.Native.Nat.{ℕ, _<_, _≤_}
 use native.Mathlib.Omega.{arith}
-use borrow.Author.Tests.{eqb-true, lt-ltb, ltb-true, ltb-false}
+use borrow.Author.Tests.{lt-ltb, ltb-true, ltb-false}
 use lib.ListN.{length, take}
-use lib.Dec.{ltb, eqb}
+use lib.Dec.{ltb}
 use Rattle.words.specs.Lists.{map}
-use Rattle.words.proofs.Tests.{false-true, and-true, true-and, pick-true, pick-false, equal-true, true-equal}
+use Rattle.words.proofs.Tests.{false-true, and-true, true-and, pick-true, pick-false}
 use Rattle.group.specs.declared.Element.{Element}
 use Rattle.sharing.specs.Answer.{openingOutcome}
 use Rattle.sharing.specs.Carried.{isValue}
@@ -18,45 +18,38 @@ use Rattle.sharing.specs.declared.Round.{Round}
 use Rattle.sharing.proofs.Place.{is-value}
 use Rattle.posted.specs.Records.{recordAt}
 use Rattle.board.specs.Search.{Ascending, recordsIn}
-use Rattle.board.specs.Board.{isKind, isOpeningBy, openingRecord}
+use Rattle.board.specs.Board.{openingRecord}
 use Rattle.verdicts.specs.Verdict.{Judges, commitmentsOf, isShareBy, sharesBy, fromShares, isOpened, secretBy}
 use Rattle.demand3.specs.Claims.{RightlyOpened, powerOfH, recoveredFrom}
 use Rattle.verdicts.specs.declared.Secret.the-variants.{Opened, Recovered, Stuck}
-use Rattle.board.proofs.Searches.{first-is, filter-ascending}
-use Rattle.board.proofs.Order.{Formed, shapes, ranks, only-first}
+use Rattle.board.proofs.Searches.{filter-ascending}
+use Rattle.board.proofs.Order.{Formed, shapes, sorted, members-rise}
+use Rattle.board.proofs.Places.{at-true, true-at, record-is, only-record}
+use Rattle.verdicts.proofs.ShareAnswers.{share-true}
 
 -- ---- accepted shares
-pub share-true : (J : Judges) (R : Round) (b : List ℕ) (d i : ℕ) → isShareBy J R b d i ≡ true → (recordAt b i .w0 ≡ 4) × (recordAt b i .w1 ≡ d)
-unfolding isShareBy
-share-true J R b d i e =
-    let s = and-true (isKind b 4 i) _ e in
-    (eqb-true (recordAt b i .w0) 4 (s .0), eqb-true (recordAt b i .w1) d (and-true (eqb (recordAt b i .w1) d) _ (s .1) .0))
-
 pub shares-ascend : (J : Judges) {R : Round} {b : List ℕ} → Formed R b → (d : ℕ) → Ascending (map (λ i. recordAt b i .w2) (sharesBy J R b d))
 unfolding sharesBy
 shares-ascend J {R} {b} F d =
     filter-ascending (isShareBy J R b d) (λ i. recordAt b i .w2) 0 (recordsIn b)
-    (λ i j l u e f. let s = share-true J R b d i e in let t = share-true J R b d j f in omega (arith, ranks F i j l (omega arith)))
+    (λ i j l u e f.
+    let s = share-true J R b d i e in
+    let t = share-true J R b d j f in
+    members-rise (sorted F) i j l (omega arith) (s .0 ∙ sym (t .0)) (s .1 ∙ sym (t .1)))
 
 -- ---- the opening
-opening-true : (b : List ℕ) (d i : ℕ) → isOpeningBy b d i ≡ true → (recordAt b i .w0 ≡ 3) × (recordAt b i .w1 ≡ d)
-unfolding isOpeningBy
-opening-true b d i e = equal-true (recordAt b i .w0) 3 (recordAt b i .w1) d e
-
 module _ {R : Round} {b : List ℕ} (F : Formed R b) (d : ℕ) where
   only-opening : (o : RightlyOpened R b d) → o .at ≡ openingRecord b d
-  unfolding openingRecord isOpeningBy
   only-opening o =
-      only-first F (isOpeningBy b d) (3072 + d * 32)
-      (λ i h e. let s = opening-true b d i e in let z = shapes F i h .opening (s .0) in omega arith)
-      (o .at) (o .inside) (true-equal (recordAt b (o .at) .w0) 3 (recordAt b (o .at) .w1) d (o .kind) (o .dealer))
+      only-record (sorted F) 3 d 0 (o .at) (o .inside)
+      (true-at (recordAt b (o .at)) 3 d 0 (o .kind) (o .dealer) (shapes F (o .at) (o .inside) .opening (o .kind)))
 
   opened-right : isOpened R b d ≡ true → RightlyOpened R b d
-  unfolding isOpened openingRecord
+  unfolding isOpened
   opened-right e =
       let s = and-true (ltb (openingRecord b d) (recordsIn b)) _ e in
       let h = ltb-true (openingRecord b d) (recordsIn b) (s .0) in
-      let k = opening-true b d (openingRecord b d) (first-is (isOpeningBy b d) 0 (recordsIn b) .here (omega arith)) in
+      let k = at-true (recordAt b (openingRecord b d)) 3 d 0 (record-is b 3 d 0 .here (omega arith)) in
       record { at = openingRecord b d; inside = h; kind = k .0; dealer = k .1; right = is-value _ (s .1) }
 
   right-opened : RightlyOpened R b d → isOpened R b d ≡ true
@@ -75,7 +68,7 @@ pub data Source (J : Judges) (R : Round) (b : List ℕ) (d : ℕ) : Type 0 where
 
 module _ (J : Judges) {R : Round} {b : List ℕ} (F : Formed R b) (d : ℕ) where
   pub source-of : Source J R b d
-  unfolding secretBy fromShares opened-right openingRecord
+  unfolding secretBy fromShares opened-right
   source-of = by (isOpened R b d) (ltb (length (sharesBy J R b d)) (R .t)) refl refl
     where
       by : (x y : Bool) → isOpened R b d ≡ x → ltb (length (sharesBy J R b d)) (R .t) ≡ y → Source J R b d

@@ -28,7 +28,8 @@ use Rattle.demand3.specs.Claims.{powerOfH, recoveredFrom, acceptedDealer
 use Rattle.verdicts.specs.declared.Secret.the-variants.{Stuck}
 use Rattle.board.proofs.Searches.{filter-all, filter-up, filter-same, take-ascending, ascending-distinct}
 use Rattle.board.proofs.Order.{Formed, reached, shapes}
-use Rattle.demand3.proofs.Sources.{Source, opened, recovers, stuck, source-of, stuck-exactly, share-true, shares-ascend}
+use Rattle.verdicts.proofs.ShareAnswers.{share-true}
+use Rattle.demand3.proofs.Sources.{Source, opened, recovers, stuck, source-of, stuck-exactly, shares-ascend}
 use Rattle.demand3.proofs.VerdictCases.{verdict-rules}
 use Rattle.demand3.proofs.Endings.{end-rules}
 

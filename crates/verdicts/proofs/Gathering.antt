@@ -1,4 +1,5 @@
--- The turns of the loop that gathers the t lowest members with accepted shares: at i it holds the first t that the records before i give.
+-- The turns of the loop that gathers the t lowest members with accepted shares: after k records of the dealer's shares, which stand from s on,
+-- it holds the first t that these give.
 use mathlib.Core.Path.{_≡_, refl, sym, ap, _∙_}
 use mathlib.Core.Bool.{Bool, true, false}
 use mathlib.Core.List.{List, [], _∷_, _++_, append-nil}
@@ -12,7 +13,7 @@ use Rattle.words.proofs.Lists.{map-length, filled-none, filled-next}
 use Rattle.sharing.specs.declared.Round.{Round}
 use Rattle.posted.specs.Records.{recordAt}
 use Rattle.posted.proofs.Filled.{up-last, map-append}
-use Rattle.board.specs.Search.{filter, recordsIn}
+use Rattle.board.specs.Search.{filter}
 use Rattle.verdicts.specs.Verdict.{Judges, isShareBy, sharesBy}
 use Rattle.verdicts.specs.Lowest.{withShare, heldOf, lowestBy}
 use Rattle.verdicts.specs.declared.Lowest.{Lowest}
@@ -23,8 +24,18 @@ take-room zero xs x h = absurd (omega arith)
 take-room (suc t) [] x h = ap (λ (l : List ℕ). x ∷ l) (take-nil t)
 take-room (suc t) (y ∷ xs) x h = ap (λ (l : List ℕ). y ∷ l) (take-room t xs x (omega arith))
 
--- ---- the first t of the numbers below i that pass a test
-module _ (f : ℕ → Bool) where
+-- ---- the first t of the k numbers from s on that pass a test
+up-more : (s k m : ℕ) → upFrom s (k + m) ≡ upFrom s k ++ upFrom (s + k) m
+up-more s zero m =
+    let a : 0 + m ≡ m = omega arith in
+    let e : s ≡ s + 0 = omega arith in
+    λ j. upFrom (e j) (a j)
+up-more s (suc k) m =
+    let a : suc k + m ≡ suc (k + m) = omega arith in
+    let e : suc s + k ≡ s + suc k = omega arith in
+    ap (upFrom s) a ∙ ap (λ (l : List ℕ). s ∷ l) (up-more (suc s) k m ∙ ap (λ (x : ℕ). upFrom (suc s) k ++ upFrom x m) e)
+
+module _ (f : ℕ → Bool) (s : ℕ) where
   filter-append : (xs ys : List ℕ) → filter f (xs ++ ys) ≡ filter f xs ++ filter f ys
   filter-append [] ys = refl
   filter-append (x ∷ xs) ys = by (f x) (filter-append xs ys)
@@ -34,27 +45,26 @@ module _ (f : ℕ → Bool) where
       by true e = ap (λ (l : List ℕ). x ∷ l) e
       by false e = e
 
-  module _ (t i : ℕ) where
-    abbrev passing : ℕ → List ℕ
-    passing k = filter f (upFrom 0 k)
+  abbrev passing : ℕ → List ℕ
+  passing k = filter f (upFrom s k)
 
+  module _ (t k : ℕ) where
     abbrev pub lowest : List ℕ
-    lowest = take t (passing i)
+    lowest = take t (passing k)
 
-    last : passing (i + 1) ≡ passing i ++ pick (f i) (i ∷ []) []
-    last =
-        let e : 0 + i ≡ i = omega arith in
-        ap (filter f) (up-last 0 i ∙ ap (λ (x : ℕ). upFrom 0 i ++ (x ∷ [])) e) ∙ filter-append (upFrom 0 i) (i ∷ [])
+    last : passing (k + 1) ≡ passing k ++ pick (f (s + k)) ((s + k) ∷ []) []
+    last = ap (filter f) (up-last s k) ∙ filter-append (upFrom s k) ((s + k) ∷ [])
 
-    lowest-more : f i ≡ true → length lowest < t → take t (passing (i + 1)) ≡ lowest ++ (i ∷ [])
-    lowest-more p h = ap (take t) (last ∙ ap (λ (x : Bool). passing i ++ pick x (i ∷ []) []) p) ∙ take-room t (passing i) i h
+    lowest-more : f (s + k) ≡ true → length lowest < t → take t (passing (k + 1)) ≡ lowest ++ ((s + k) ∷ [])
+    lowest-more p h = ap (take t) (last ∙ ap (λ (x : Bool). passing k ++ pick x ((s + k) ∷ []) []) p) ∙ take-room t (passing k) (s + k) h
 
-    lowest-same : f i ≡ false → take t (passing (i + 1)) ≡ lowest
-    lowest-same p = ap (take t) (last ∙ ap (λ (x : Bool). passing i ++ pick x (i ∷ []) []) p ∙ append-nil (passing i))
+    lowest-same : f (s + k) ≡ false → take t (passing (k + 1)) ≡ lowest
+    lowest-same p = ap (take t) (last ∙ ap (λ (x : Bool). passing k ++ pick x ((s + k) ∷ []) []) p ∙ append-nil (passing k))
 
-    lowest-full : t ≤ length lowest → take t (passing (i + 1)) ≡ lowest
-    lowest-full h =
-        ap (take t) last ∙ take-append-le t (passing i) (pick (f i) (i ∷ []) []) (omega (arith, length-take t (passing i)))
+    lowest-full : (m : ℕ) → t ≤ length lowest → take t (passing (k + m)) ≡ lowest
+    lowest-full m h =
+        ap (take t) (ap (filter f) (up-more s k m) ∙ filter-append (upFrom s k) (upFrom (s + k) m))
+        ∙ take-append-le t (passing k) (filter f (upFrom (s + k) m)) (omega (arith, length-take t (passing k)))
 
 -- ---- one more, held behind the others
 held-more : (b is : List ℕ) (i : ℕ) → length is < 31
@@ -67,39 +77,44 @@ held-more b is i h =
     λ j. record { members = more (λ i. recordAt b i .w2) j; shares = more (λ i. recordAt b i .w3) j; count = sym (length-append is (i ∷ [])) j }
 
 -- ---- the loop
-module _ (J : Judges) (R : Round) (b : List ℕ) (d : ℕ) where
+module _ (J : Judges) (R : Round) (b : List ℕ) (d s : ℕ) where
   abbrev pub heldAt : ℕ → Lowest
-  heldAt i = heldOf b (lowest (isShareBy J R b d) (R .t) i)
+  heldAt k = heldOf b (lowest (isShareBy J R b d) s (R .t) k)
 
   pub held-none : record { members = replicate 31 0; shares = replicate 31 0; count = 0 } ≡ heldAt 0
   unfolding heldOf
   held-none =
-      let e : [] ≡ lowest (isShareBy J R b d) (R .t) 0 = sym (take-nil (R .t)) in
+      let e : [] ≡ lowest (isShareBy J R b d) s (R .t) 0 = sym (take-nil (R .t)) in
       λ j. record { members = (filled-none 31 ∙ ap (λ (is : List ℕ). filled 31 (map (λ i. recordAt b i .w2) is)) e) j; shares = (filled-none 31 ∙ ap (λ (is : List ℕ). filled 31 (map (λ i. recordAt b i .w3) is)) e) j; count = length (e j) }
 
-  module _ (i : ℕ) {A : Lowest} (e : A ≡ heldAt i) where
-    held-count : A .count ≡ length (lowest (isShareBy J R b d) (R .t) i)
+  module _ (k : ℕ) {A : Lowest} (e : A ≡ heldAt k) where
+    held-count : A .count ≡ length (lowest (isShareBy J R b d) s (R .t) k)
     unfolding heldOf
     held-count = ap (λ (B : Lowest). B .count) e
 
-    pub held-next : R .t ≤ 31 → A .count < R .t → withShare J R b d i A ≡ heldAt (i + 1)
+    pub held-next : R .t ≤ 31 → A .count < R .t → withShare J R b d (s + k) A ≡ heldAt (k + 1)
     unfolding withShare heldOf
-    held-next l h = ap (withShare J R b d i) e ∙ by (isShareBy J R b d i) refl
+    held-next l h = ap (withShare J R b d (s + k)) e ∙ by (isShareBy J R b d (s + k)) refl
       where
         is : List ℕ
-        is = lowest (isShareBy J R b d) (R .t) i
+        is = lowest (isShareBy J R b d) s (R .t) k
 
-        by : (x : Bool) → isShareBy J R b d i ≡ x
+        by : (x : Bool) → isShareBy J R b d (s + k) ≡ x
             → pick x
-            (record { members = set (heldOf b is .members) (length is) (recordAt b i .w2); shares = set (heldOf b is .shares) (length is) (recordAt b i .w3); count = length is + 1 })
+            (record { members = set (heldOf b is .members) (length is) (recordAt b (s + k) .w2); shares = set (heldOf b is .shares) (length is) (recordAt b (s + k) .w3); count = length is + 1 })
             (heldOf b is)
-            ≡ heldAt (i + 1)
-        by true p = held-more b is i (omega (arith, held-count)) ∙ ap (heldOf b) (sym (lowest-more (isShareBy J R b d) (R .t) i p (omega (arith, held-count))))
-        by false p = ap (heldOf b) (sym (lowest-same (isShareBy J R b d) (R .t) i p))
+            ≡ heldAt (k + 1)
+        by true p = held-more b is (s + k) (omega (arith, held-count)) ∙ ap (heldOf b) (sym (lowest-more (isShareBy J R b d) s (R .t) k p (omega (arith, held-count))))
+        by false p = ap (heldOf b) (sym (lowest-same (isShareBy J R b d) s (R .t) k p))
 
-    pub held-full : R .t ≤ A .count → A ≡ heldAt (i + 1)
-    held-full h = e ∙ ap (heldOf b) (sym (lowest-full (isShareBy J R b d) (R .t) i (omega (arith, held-count))))
+    -- all n of the shares are seen, or t are found
+    module _ (n : ℕ) (all : filter (isShareBy J R b d) (upFrom s n) ≡ sharesBy J R b d) where
+      pub held-all : k ≡ n → A ≡ lowestBy J R b d
+      unfolding lowestBy
+      held-all h = e ∙ ap heldAt h ∙ ap (λ (is : List ℕ). heldOf b (take (R .t) is)) all
 
-    pub held-all : i ≡ recordsIn b → A ≡ lowestBy J R b d
-    unfolding lowestBy sharesBy
-    held-all n = e ∙ ap heldAt n
+      pub held-full : (m : ℕ) → k + m ≡ n → R .t ≤ A .count → A ≡ lowestBy J R b d
+      unfolding lowestBy
+      held-full m h l =
+          e ∙ ap (heldOf b) (sym (lowest-full (isShareBy J R b d) s (R .t) k m (omega (arith, held-count)))) ∙ ap heldAt h
+          ∙ ap (λ (is : List ℕ). heldOf b (take (R .t) is)) all

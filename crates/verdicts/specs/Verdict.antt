@@ -2,7 +2,7 @@
 use mathlib.Core.Path.{_≡_}
 use mathlib.Core.Bool.{Bool, _&&_}
 use mathlib.Core.List.{List}
-use Prim.Native.Nat.{ℕ, _*_}
+use Prim.Native.Nat.{ℕ, _*_, _<_}
 use lib.ListN.{length, take, drop}
 use lib.Dec.{ltb, eqb}
 use Rattle.words.specs.Choice.{pick}
@@ -18,7 +18,7 @@ use Rattle.posted.specs.Records.{recordAt}
 use Rattle.dealing.specs.Dealing.{vsIn, YIn, judgeDealingOutcome}
 use Rattle.opened.specs.Share.{judgeShareOutcome}
 use Rattle.board.specs.Search.{filter, recordsIn}
-use Rattle.board.specs.Board.{isKind, boardChecks, keyIn, keysIn, lineCount, linesOf, openingRecord}
+use Rattle.board.specs.Board.{boardChecks, keyIn, keysIn, lineCount, linesOf, openingRecord}
 use Rattle.verdicts.specs.declared.Secret.{Secret}
 use Rattle.verdicts.specs.declared.Secret.the-variants.{Opened, Recovered, Stuck}
 use Rattle.verdicts.specs.declared.Verdict.{Verdict}
@@ -53,18 +53,20 @@ pub record Dealt (R : Round) (b : List ℕ) (d : ℕ) (lines : List ℕ) : Type 
   pub size : lineCount b d ≡ R .n
 
 -- ---- accepted shares
+-- the record i is a share of the dealer d
+pub record ShareOf (b : List ℕ) (d i : ℕ) : Type 0 where
+  pub inside : i < recordsIn b
+  pub kind : recordAt b i .w0 ≡ 4
+  pub dealer : recordAt b i .w1 ≡ d
+
 -- what the judge of opened shares answers for the record i with the key of its member and the Y of that member's line
 unfoldable pub shareAnswer : Judges → Round → List ℕ → ℕ → ℕ → Outcome Element
 shareAnswer J R b d i =
     J .share R d (recordAt b i .w2) (keyIn b (recordAt b i .w2)) (YIn (linesOf b d) (recordAt b i .w2)) (take 32 (drop (32 * i) b))
 
--- the same for a record of any kind and dealer: 4 where it is no share of the dealer d
-unfoldable pub shareOutcome : Judges → Round → List ℕ → ℕ → ℕ → Outcome Element
-shareOutcome J R b d i = pick (isKind b 4 i) (pick (eqb (recordAt b i .w1) d) (shareAnswer J R b d i) (refused 4)) (refused 4)
-
 -- the record i is an accepted share of the dealer d
 unfoldable pub isShareBy : Judges → Round → List ℕ → ℕ → ℕ → Bool
-isShareBy J R b d i = isKind b 4 i && (eqb (recordAt b i .w1) d && isValue (shareAnswer J R b d i))
+isShareBy J R b d i = eqb (recordAt b i .w0) 4 && (eqb (recordAt b i .w1) d && isValue (shareAnswer J R b d i))
 
 -- the records of his accepted shares, by ascending member
 unfoldable pub sharesBy : Judges → Round → List ℕ → ℕ → List ℕ

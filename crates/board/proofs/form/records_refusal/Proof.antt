@@ -48,8 +48,8 @@ sub-record-at c = search needs
 record-at-requires-2 : tie.Need-record-at-requires-2 Inv-loop μ-loop
 record-at-requires-2 c κs = search needs
 
-is-above-requires : tie.Need-is-above-requires Inv-loop μ-loop
-is-above-requires c κs = search needs
+is-below-requires : tie.Need-is-below-requires Inv-loop μ-loop
+is-below-requires c κs = search needs
 
 returns-2 : tie.Need-returns-2 Inv-loop μ-loop
 returns-2 c =
@@ -60,7 +60,7 @@ returns-2 c =
     let r = v .before .before .record-at .ensures in
     let s = shape-found (a .b .now) (l .i) r (a .n) (v .before .is-shaped .ensures) (not-false _ (v .if1 .left)) in
     let o =
-    order-found (a .b .now) (l .i) r (c .before .before .before .if2 .taken) (c .before .before .record-at2 .ensures) (c .before .is-above .ensures)
+    order-found (a .b .now) (l .i) r (c .before .before .before .if2 .taken) (c .before .before .record-at2 .ensures) (c .before .is-below .ensures)
     (not-true _ (c .if3 .taken)) in
     sym (l .inv .1 ∙ unordered (a .n) (a .b .now) (w .before .before .records .result) (l .i) (w .loop-test .taken) s o)
 
@@ -104,7 +104,7 @@ records-refusal-spec =
     returns
     sub-record-at
     record-at-requires-2
-    is-above-requires
+    is-below-requires
     returns-2
     add-i
     loop-less

@@ -3,13 +3,14 @@ use mathlib.Core.Path.{sym, ap, _∙_}
 use mathlib.Core.List.{_++_}
 use native.Mathlib.Omega.{arith}
 use borrow.Author.Needs.{needs}
-use Rattle.words.proofs.Checks.{refusal-rest, refusal-append, value-met, refused-exactly, none-exactly, first-exactly}
+use Rattle.words.proofs.Checks.{refusal-rest, refusal-append, value-met, refused-exactly, first-exactly}
 use Rattle.group.specs.Table.{groupOutcomeOf}
 use Rattle.group.specs.declared.Group.{Group}
 use Rattle.sharing.specs.Round.{groupIn, roundChecks}
 use Rattle.sharing.proofs.Answers.{round-value}
 use Rattle.board.specs.Board.{formChecks, keyChecks}
-use Rattle.board.proofs.Numbers.{form-numbered}
+use Rattle.board.proofs.Numbers.{form-met}
+use Rattle.board.proofs.Order.{form-sorted}
 use Rattle.board.proofs.keys.board_refusal.Statement.{statement}
 use Rattle.board.proofs.keys.board_refusal.Tie as tie
 
@@ -40,8 +41,9 @@ returns c =
 keys-refusal-requires : tie.Need-keys-refusal-requires
 keys-refusal-requires c κs =
     let g = c .before .before .before in
+    let a = g .before .before .before .before .args in
     let s = round-value _ (g .before .before .round-group .ensures) (g .gr .given .1) in
-    (s .is-group, s .ready .at-most)
+    (s .is-group, s .ready .at-most, form-sorted (a .rd .n) (a .b .now) (form-met (a .rd .n) (a .b .now) (sym (c .before .form-refusal .ensures) ∙ c .if1 .left)))
 
 returns-2 : tie.Need-returns-2
 returns-2 c =
@@ -60,7 +62,7 @@ returns-3 c =
     let m = value-met (roundChecks (a .rd)) (groupIn (a .rd)) _ (sym (r .round-group .ensures) ∙ ap groupOutcomeOf (g .gr .given .1)) .0 in
     sym
     (refusal-rest (roundChecks (a .rd)) (fs ++ ks) m
-    ∙ refusal-rest fs ks (none-exactly fs (form-numbered (a .rd .n) (a .b .now)) .0 (sym (c .before .before .form-refusal .ensures) ∙ c .before .if1 .left))
+    ∙ refusal-rest fs ks (form-met (a .rd .n) (a .b .now) (sym (c .before .before .form-refusal .ensures) ∙ c .before .if1 .left))
     ∙ sym (c .keys-refusal .ensures))
 
 pub board-refusal-spec : {M : Type 1} → statement M

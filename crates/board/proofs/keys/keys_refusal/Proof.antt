@@ -35,7 +35,7 @@ cast-n c = search needs
 board-keys-requires : tie.Need-board-keys-requires
 board-keys-requires c κs =
     let h = c .before .before in
-    (h .before .before .pre .1, sym (h .has-keys .ensures) ∙ not-false _ (c .before .if1 .left))
+    (h .before .before .pre .1, sym (h .has-keys .ensures) ∙ not-false _ (c .before .if1 .left), h .before .before .pre .2)
 
 sub-all-keys : tie.Need-sub-all-keys
 sub-all-keys c = search needs

@@ -1,13 +1,22 @@
 -- `dealer_lines` meets its contract: what `lines_check` answers tells whether every check is met.
-use mathlib.Core.Path.{sym, ap, _∙_}
-use mathlib.Core.List.{[]}
+use mathlib.Core.Path.{_≡_, sym, ap, _∙_}
+use mathlib.Core.List.{List, []}
 use Prim.Native.Nat.{ℕ, _*_}
 use borrow.Author.Needs.{needs}
+use Rattle.words.specs.Checks.{Met, outcome}
 use Rattle.words.proofs.Checks.{value-met, refused-exactly, lent-met, lent-kept}
 use Rattle.sharing.specs.Answer.{checkOutcomeOf}
+use Rattle.sharing.specs.declared.CheckAnswer.{CheckAnswer}
+use Rattle.sharing.specs.declared.CheckAnswer.the-variants.{Passed}
+use Rattle.sharing.specs.declared.Round.{Round}
 use Rattle.board.specs.Board.{linesStart, linesOf, linesChecks, linesPart, linesAt, behind}
+use Rattle.board.proofs.Order.{form-sorted}
 use Rattle.board.proofs.lines.dealer_lines.Statement.{statement}
 use Rattle.board.proofs.lines.dealer_lines.Tie as tie
+
+-- every check is met where the answer passes
+passed : (R : Round) (d : ℕ) (b : List ℕ) {a : CheckAnswer} → checkOutcomeOf a ≡ outcome (linesChecks R d b) tt → a ≡ Passed → Met (linesChecks R d b)
+passed R d b e f = value-met (linesChecks R d b) tt tt (sym e ∙ ap checkOutcomeOf f) .0
 
 lines-check-requires : tie.Need-lines-check-requires
 lines-check-requires c κs = search needs
@@ -28,7 +37,10 @@ enum-told-2 : tie.Need-enum-told-2
 enum-told-2 c = search needs
 
 lines-of-requires : tie.Need-lines-of-requires
-lines-of-requires c κs = search needs
+lines-of-requires c κs =
+    let l = c .before .before in
+    let a = l .before .before .args in
+    form-sorted (a .rd .n) (a .b .now) (passed (a .rd) (a .d) (a .b .now) (l .lines-check .ensures) (c .enum-told2 .given .1) .1 .1 .1)
 
 returns : tie.Need-returns
 unfolding linesPart linesAt
@@ -47,7 +59,7 @@ returns-2 c =
     let a = l .before .before .args in
     let b = a .b .now in
     let cs = linesChecks (a .rd) (a .d) b in
-    let m = value-met cs tt tt (sym (l .lines-check .ensures) ∙ ap checkOutcomeOf (c .before .enum-told2 .given .1)) .0 in
+    let m = passed (a .rd) (a .d) b (l .lines-check .ensures) (c .before .enum-told2 .given .1) in
     let f = c .lines-of .ensures in
     (f .0 ∙ sym (lent-met cs (linesOf b (a .d)) [] m), f .1 ∙ ap (λ (k : ℕ). behind k (a .b .ptr)) (sym (lent-met cs (32 * linesStart b (a .d)) 0 m)))
 

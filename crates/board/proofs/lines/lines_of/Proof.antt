@@ -4,56 +4,56 @@ use native.Mathlib.Omega.{arith}
 use borrow.Author.Needs.{needs}
 use lib.ListN.{take, drop}
 use Rattle.board.specs.Board.{linesOf, behind}
-use Rattle.board.proofs.LineRun.{start-is, end-is, end-inside}
+use Rattle.board.proofs.Places.{place-within, run-rises}
 use Rattle.board.proofs.lines.lines_of.Statement.{statement}
 use Rattle.board.proofs.lines.lines_of.Tie as tie
 
-lines-start-requires : tie.Need-lines-start-requires
-lines-start-requires c κs = search needs
+place-of-requires : tie.Need-place-of-requires
+place-of-requires c κs = search needs
 
 mul-from : tie.Need-mul-from
 mul-from c =
     let a = c .before .before .args in
-    omega (arith, c .lines-start .ensures, start-is (a .b .now) (a .d) .upto)
+    omega (arith, c .place-of .ensures, place-within (a .b .now) 2 (a .d) 0)
 
-lines-end-requires : tie.Need-lines-end-requires
-lines-end-requires c κs = search needs
+place-of-requires-2 : tie.Need-place-of-requires-2
+place-of-requires-2 c κs = search needs
 
 mul-to : tie.Need-mul-to
 mul-to c =
     let a = c .before .before .before .args in
-    omega (arith, c .lines-end .ensures, end-inside (a .b .now) (a .d))
+    omega (arith, c .place-of2 .ensures, place-within (a .b .now) 2 (a .d) 32)
 
 sub-result : tie.Need-sub-result
 sub-result c =
-    let a = c .before .before .before .args in
-    omega (arith, c .before .lines-start .ensures, c .lines-end .ensures, end-is (a .b .now) (a .d) .from)
+    let w = c .before .before .before in
+    omega (arith, c .before .place-of .ensures, c .place-of2 .ensures, run-rises (w .pre) 2 (w .args .d))
 
 part-result-start : tie.Need-part-result-start
 part-result-start c =
-    let a = c .before .before .before .args in
-    omega (arith, c .before .lines-start .ensures, c .lines-end .ensures, end-is (a .b .now) (a .d) .from)
+    let w = c .before .before .before in
+    omega (arith, c .before .place-of .ensures, c .place-of2 .ensures, run-rises (w .pre) 2 (w .args .d))
 
 part-result-end : tie.Need-part-result-end
 part-result-end c =
     let a = c .before .before .before .args in
-    omega (arith, c .lines-end .ensures, end-inside (a .b .now) (a .d))
+    omega (arith, c .place-of2 .ensures, place-within (a .b .now) 2 (a .d) 32)
 
 returns : tie.Need-returns
 unfolding linesOf
 returns c =
     let a = c .before .before .before .before .args in
-    let s = c .before .before .lines-start .ensures in
-    let e = c .before .lines-end .ensures in
+    let s = c .before .before .place-of .ensures in
+    let e = c .before .place-of2 .ensures in
     (λ j. take (32 * e j - 32 * s j) (drop (32 * s j) (a .b .now)), λ j. behind (32 * s j) (a .b .ptr))
 
 pub lines-of-spec : {M : Type 1} → statement M
 lines-of-spec =
     tie.close
     (tie.spec
-    lines-start-requires
+    place-of-requires
     mul-from
-    lines-end-requires
+    place-of-requires-2
     mul-to
     sub-result
     part-result-start

@@ -13,7 +13,7 @@ use Rattle.sharing.proofs.Rounds.{ready}
 use Rattle.posted.proofs.Filled.{members-front}
 use Rattle.board.specs.Board.{keyIn, keysIn, boardChecks}
 use Rattle.verdicts.specs.Verdict.{judges, verdictOn}
-use Rattle.board.proofs.Order.{reached}
+use Rattle.board.proofs.Order.{reached, sorted}
 use Rattle.verdicts.proofs.Seats.{Tallied, tallied-start, tallied-next, count-most}
 use Rattle.verdicts.proofs.Judgements.{tallied-judged}
 use Rattle.verdicts.proofs.judge.tally.Statement.{statement}
@@ -34,7 +34,7 @@ board-keys-requires : tie.Need-board-keys-requires Inv-loop μ-loop
 board-keys-requires c κs =
     let w = c .before .before in
     let r = reached (w .args .rd) (w .args .b .now) (w .pre .1) in
-    (ready (w .args .rd) (r .formed .round) .at-most, r .keys)
+    (ready (w .args .rd) (r .formed .round) .at-most, r .keys, sorted (r .formed))
 
 loop-holds : tie.Need-loop-holds Inv-loop μ-loop
 loop-holds c =

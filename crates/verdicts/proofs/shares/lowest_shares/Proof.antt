@@ -1,38 +1,54 @@
--- `lowest_shares` meets its contract. The loop's invariant: what is found is the first t that the records before i give.
-use mathlib.Core.Path.{_≡_, _∙_}
-use mathlib.Core.Logic.{⊎-elim}
-use Prim.Native.Nat.{_-_, _≤_}
+-- `lowest_shares` meets its contract. The loop's invariant: what is found is the first t that the dealer's shares before i give.
+use mathlib.Core.Path.{_≡_, sym, ap, _∙_}
+use Prim.Native.Nat.{ℕ, _+_, _-_, _≤_}
 use native.Mathlib.Omega.{arith}
 use borrow.Author.Needs.{needs}
-use Rattle.board.specs.Search.{recordsIn}
+use borrow.Author.Tests.{ltb-true, ltb-false}
+use Rattle.board.specs.Board.{placeOf}
+use Rattle.board.proofs.Places.{run-rises}
 use Rattle.verdicts.specs.Verdict.{judges}
+use Rattle.verdicts.specs.Lowest.{withShare}
 use Rattle.verdicts.proofs.Gathering.{heldAt, held-none, held-next, held-full, held-all}
-use Rattle.verdicts.proofs.ShareAnswers.{dealt-ready}
+use Rattle.verdicts.proofs.ShareAnswers.{dealt-ready, dealt-sorted, run-share, run-shares}
 use Rattle.verdicts.proofs.shares.lowest_shares.Statement.{statement}
 use Rattle.verdicts.proofs.shares.lowest_shares.Tie as tie
 
 abbrev Inv-loop : tie.InvT-loop
-Inv-loop rd b d lines room all found₀ i₀ found i = (all ≡ recordsIn b) × (rd .t ≤ 31) × (i ≤ all) × (found ≡ heldAt judges rd b d i)
+Inv-loop rd b d lines room end found₀ i₀ found i =
+    (placeOf b 4 d 0 ≤ i) × (i ≤ placeOf b 4 d 32) × (rd .t ≤ 31) × (found ≡ heldAt judges rd b d (placeOf b 4 d 0) (i - placeOf b 4 d 0))
 
 abbrev μ-loop : tie.MeasureT-loop
-μ-loop rd b d lines room all found₀ i₀ found i = all - i
+μ-loop rd b d lines room end found₀ i₀ found i = end - i
 
 cast-room : tie.Need-cast-room Inv-loop μ-loop
 cast-room c = search needs
 
-records-requires : tie.Need-records-requires Inv-loop μ-loop
-records-requires c κs = search needs
+place-of-requires : tie.Need-place-of-requires Inv-loop μ-loop
+place-of-requires c κs = dealt-sorted (c .before .before .before .pre)
+
+place-of-requires-2 : tie.Need-place-of-requires-2 Inv-loop μ-loop
+place-of-requires-2 c κs = dealt-sorted (c .before .before .before .before .pre)
 
 loop-holds : tie.Need-loop-holds Inv-loop μ-loop
 loop-holds c =
-    let w = c .before .before .before .before in
+    let w = c .before .before .before .before .before in
+    let a = w .args in
     let y = dealt-ready (w .pre) in
-    (c .records .ensures, omega (arith, y .enough, y .at-most), omega arith, held-none judges (w .args .rd) (w .args .b .now) (w .args .d))
+    let b = a .b .now in
+    let s = c .place-of2 .ensures in
+    let z : 0 ≡ c .place-of2 .result - placeOf b 4 (a .d) 0 = omega (arith, s) in (
+      omega (arith, s),
+      omega (arith, s, run-rises (dealt-sorted (w .pre)) 4 (a .d)),
+      omega (arith, y .enough, y .at-most),
+      held-none judges (a .rd) b (a .d) (placeOf b 4 (a .d) 0) ∙ ap (heldAt judges (a .rd) b (a .d) (placeOf b 4 (a .d) 0)) z,
+    )
 
 with-share-requires : tie.Need-with-share-requires Inv-loop μ-loop
 with-share-requires c κs =
-    let l = c .before .before .before .loop in
-    (omega (arith, c .before .before .loop-test .taken, l .inv .0), c .before .before .before .before .before .before .before .before .pre, omega (arith, c .if1 .taken, l .inv .1))
+    let l = c .before .before .before in
+    let w = l .before .before .before .before .before .before in
+    let e = l .before .before .place-of .ensures in
+    (run-share (w .pre) (l .loop .i) (l .loop .inv .0) (omega (arith, e, c .before .before .loop-test .taken)), w .pre, omega (arith, ltb-true (l .loop .found .count) (w .args .rd .t) (c .if1 .taken), l .loop .inv .1))
 
 add-i : tie.Need-add-i Inv-loop μ-loop
 add-i c = search needs
@@ -42,19 +58,39 @@ loop-less c = search needs
 
 loop-again : tie.Need-loop-again Inv-loop μ-loop
 loop-again c =
-    let l = c .before .before .before .loop in
-    let e = l .inv .3 in (
-      l .inv .0,
-      l .inv .1,
-      omega (arith, c .before .before .loop-test .taken),
-      ⊎-elim (λ q. q .2 ∙ q .1 .ensures ∙ held-next _ _ _ _ (l .i) e (l .inv .1) (q .0 .taken)) (λ q. q .1 ∙ held-full _ _ _ _ (l .i) e (q .0 .left))
-          (c .if1 .came),
+    let l = c .before .before .before .before in
+    let a = l .before .before .before .before .before .before .args in
+    let e = l .before .before .place-of .ensures in
+    let i = l .loop .i in
+    let s = placeOf (a .b .now) 4 (a .d) 0 in
+    let here : i ≡ s + (i - s) = omega (arith, l .loop .inv .0) in
+    let next : i - s + 1 ≡ i + 1 - s = omega (arith, l .loop .inv .0) in (
+      omega (arith, l .loop .inv .0),
+      omega (arith, e, c .before .before .before .loop-test .taken),
+      l .loop .inv .2,
+      c .with-share .ensures ∙ ap (λ (x : ℕ). withShare judges (a .rd) (a .b .now) (a .d) x (l .loop .found)) here
+          ∙ held-next judges (a .rd) (a .b .now) (a .d) s (i - s) (l .loop .inv .3) (l .loop .inv .2) (ltb-true _ _ (c .before .if1 .taken))
+          ∙ ap (heldAt judges (a .rd) (a .b .now) (a .d) s) next,
     )
 
 returns : tie.Need-returns Inv-loop μ-loop
 returns c =
-    let l = c .before .loop in
-    held-all _ _ _ _ (l .i) (l .inv .3) (omega (arith, c .loop-test .left, l .inv .0))
+    let l = c .before .before .before in
+    let w = l .before .before .before .before .before .before in
+    let b = w .args .b .now in
+    let d = w .args .d in
+    held-full judges (w .args .rd) b d (placeOf b 4 d 0) (l .loop .i - placeOf b 4 d 0) (l .loop .inv .3) (placeOf b 4 d 32 - placeOf b 4 d 0) (run-shares (w .pre) judges) (placeOf b 4 d 32 - l .loop .i)
+    (omega (arith, l .loop .inv .0, l .loop .inv .1)) (ltb-false _ _ (c .if1 .left))
+
+returns-2 : tie.Need-returns-2 Inv-loop μ-loop
+returns-2 c =
+    let l = c .before in
+    let w = l .before .before .before .before .before .before in
+    let b = w .args .b .now in
+    let d = w .args .d in
+    let end : l .loop .i ≡ placeOf b 4 d 32 = omega (arith, l .before .before .place-of .ensures, c .loop-test .left, l .loop .inv .1) in
+    held-all judges (w .args .rd) b d (placeOf b 4 d 0) (l .loop .i - placeOf b 4 d 0) (l .loop .inv .3) (placeOf b 4 d 32 - placeOf b 4 d 0) (run-shares (w .pre) judges)
+    (ap (λ (x : ℕ). x - placeOf b 4 d 0) end)
 
 pub lowest-shares-spec : {M : Type 1} → statement M
 lowest-shares-spec =
@@ -63,10 +99,12 @@ lowest-shares-spec =
     Inv-loop
     μ-loop
     cast-room
-    records-requires
+    place-of-requires
+    place-of-requires-2
     loop-holds
     with-share-requires
     add-i
     loop-less
     loop-again
-    returns)
+    returns
+    returns-2)

@@ -18,8 +18,9 @@ enum-told c = search needs
 returns : tie.Need-returns
 returns c =
     let s = c .before .before in
-    let a = s .before .before .before .args in
-    with-none (a .rd) (a .b .now) (a .d) (a .i) (a .found) (s .accepted-share .ensures) (c .enum-told .given .1)
+    let w = s .before .before .before in
+    let a = w .args in
+    with-none (a .rd) (a .b .now) (a .d) (a .i) (w .pre .0) (a .found) (s .accepted-share .ensures) (c .enum-told .given .1)
 
 record-at-requires : tie.Need-record-at-requires
 record-at-requires c κs = search needs
@@ -44,8 +45,9 @@ returns-2 c =
     let r = c .before .before in
     let v = r .before .before in
     let s = v .before .before in
-    let a = s .before .before .before .args in
-    with-one (a .rd) (a .b .now) (a .d) (a .i) (a .found) (s .accepted-share .ensures) _ (v .s .given .1) (ap (λ (x : Record). x .w2) (r .record-at .ensures))
+    let w = s .before .before .before in
+    let a = w .args in
+    with-one (a .rd) (a .b .now) (a .d) (a .i) (w .pre .0) (a .found) (s .accepted-share .ensures) _ (v .s .given .1) (ap (λ (x : Record). x .w2) (r .record-at .ensures))
 
 pub with-share-spec : {M : Type 1} → statement M
 with-share-spec =

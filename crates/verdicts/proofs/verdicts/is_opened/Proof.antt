@@ -11,7 +11,7 @@ use Rattle.sharing.specs.Carried.{isValue}
 use Rattle.posted.specs.Records.{recordAt}
 use Rattle.posted.proofs.Filled.{members-front}
 use Rattle.verdicts.specs.Verdict.{isOpened}
-use Rattle.verdicts.proofs.ShareAnswers.{dealt-ready, lines-length}
+use Rattle.verdicts.proofs.ShareAnswers.{dealt-ready, dealt-sorted, lines-length}
 use Rattle.verdicts.proofs.Secrets.{opened-none, opened-told}
 use Rattle.verdicts.proofs.verdicts.is_opened.Statement.{statement}
 use Rattle.verdicts.proofs.verdicts.is_opened.Tie as tie
@@ -35,7 +35,7 @@ told c =
     (ap (λ (x : Record). x .w3) (c .before .record-at .ensures ∙ ap (recordAt b) (f .find-opening .ensures)))
 
 find-opening-requires : tie.Need-find-opening-requires
-find-opening-requires c κs = search needs
+find-opening-requires c κs = dealt-sorted (c .before .before .pre)
 
 records-requires : tie.Need-records-requires
 records-requires c κs = search needs

@@ -8,7 +8,7 @@ use Rattle.words.specs.declared.Record.{Record}
 use Rattle.group.specs.declared.Group.{Group}
 use Rattle.posted.specs.Records.{recordAt}
 use Rattle.verdicts.specs.Verdict.{judges}
-use Rattle.verdicts.proofs.ShareAnswers.{dealt-ready}
+use Rattle.verdicts.proofs.ShareAnswers.{dealt-ready, dealt-sorted}
 use Rattle.verdicts.proofs.Secrets.{opening-inside, secret-shares, secret-opened}
 use Rattle.verdicts.proofs.verdicts.secret.Statement.{statement}
 use Rattle.verdicts.proofs.verdicts.secret.Tie as tie
@@ -26,7 +26,7 @@ returns c =
     c .from-shares .ensures ∙ secret-shares (a .rd) (a .b .now) (a .d) judges (sym (o .is-opened .ensures) ∙ not-true _ (c .before .if1 .taken))
 
 find-opening-requires : tie.Need-find-opening-requires
-find-opening-requires c κs = search needs
+find-opening-requires c κs = dealt-sorted (c .before .before .before .before .pre .1)
 
 record-at-requires : tie.Need-record-at-requires
 record-at-requires c κs =

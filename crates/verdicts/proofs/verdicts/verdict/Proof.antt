@@ -1,11 +1,14 @@
 -- `verdict` meets its contract: the number of his lines decides, and then the judge's answer on them.
 use borrow.Author.Needs.{needs}
+use Rattle.board.proofs.Order.{reached, sorted}
 use Rattle.verdicts.proofs.VerdictAnswers.{no-lines, not-all-lines, all-lines, dealing-refused, dealing-accepted}
 use Rattle.verdicts.proofs.verdicts.verdict.Statement.{statement}
 use Rattle.verdicts.proofs.verdicts.verdict.Tie as tie
 
 lines-of-requires : tie.Need-lines-of-requires
-lines-of-requires c κs = search needs
+lines-of-requires c κs =
+    let w = c .before .before in
+    sorted (reached (w .args .rd) (w .args .b .now) (w .pre .1) .formed)
 
 records-requires : tie.Need-records-requires
 records-requires c κs = search needs
