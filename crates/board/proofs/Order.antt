@@ -3,101 +3,93 @@ use mathlib.Core.Path.{_≡_, refl, sym, ap, _∙_, subst}
 use mathlib.Core.Bool.{Bool, true, false, _&&_}
 use mathlib.Core.List.{List}
 use mathlib.Core.Logic.{⊎-elim}
-use Prim.Native.Nat.{ℕ, zero, suc, _+_, _-_, _<_, _≤_}
+use Prim.Native.Nat.{ℕ, zero, suc, _+_, _-_, _%_, _<_, _≤_}
 use native.Mathlib.Nat.{eq-or-lt-of-le, le-of-suc-le-suc, not-suc-le-zero}
 use native.Mathlib.Omega.{arith}
-use borrow.Author.Tests.{ltb-true, eqb-true, lt-ltb, eq-eqb, ne-eqb}
+use borrow.Author.Tests.{ltb-true, leb-true, eqb-true, lt-ltb, eq-eqb, ne-eqb}
+use lib.ListN.{length}
 use lib.Dec.{ltb, eqb}
 use Rattle.words.specs.Choice.{pick}
 use Rattle.words.specs.Lists.{all}
-use Rattle.words.specs.Checks.{Check, Met}
+use Rattle.words.specs.Checks.{Met}
 use Rattle.words.specs.declared.Record.{Record}
-use Rattle.words.proofs.Lists.{All-parts}
+use Rattle.words.proofs.Stages.{met-both}
 use Rattle.words.proofs.Tests.{false-true, and-true, pick-false}
-use Rattle.sharing.specs.Round.{groupIn, roundChecks, isMember, members}
-use Rattle.sharing.specs.declared.Round.{Round}
-use Rattle.posted.specs.Records.{isKeyRecord, isLineRecord, isOpeningRecord, isShareRecord, recordAt, isKey}
-use Rattle.posted.proofs.Members.{member-exactly}
+use Rattle.sharing.specs.Setting.{isMember, members}
+use Rattle.sharing.specs.declared.Setting.{Setting}
+use Rattle.records.specs.Layout.{keyKind, lineKind, openingKind, shareKind, dealerOf, memberOf}
+use Rattle.records.specs.Layout.{agrees, isKeyRecord, isLineRecord, isOpeningRecord, isShareRecord, isRoundless, recordAt}
+use Rattle.records.specs.Keys.{keyChecks}
+use Rattle.records.proofs.Members.{member-exactly}
 use Rattle.board.specs.Search.{recordsIn}
-use Rattle.board.specs.Board.{isShaped, isBelow, isAbove, recordChecks, formChecks, Sorted, keyRecord, keysIn, keyChecks, boardChecks}
+use Rattle.board.specs.Board.{isShaped, isBelow, isAbove, recordChecks, formChecks, Sorted, hasKey, keysIn, boardKeyChecks, boardChecks}
 
 -- ---- the checks before verdicts, taken apart
-pub record Formed (R : Round) (b : List ℕ) : Type 0 where
-  pub round : Met (roundChecks R)
-  pub form : Met (formChecks (R .n) b)
+pub record Reached (S : Setting) (b : List ℕ) : Type 0 where
+  pub form : Met (formChecks (S .n) b)
+  pub keys : all (hasKey b) (members (S .n)) ≡ true
+  pub proper : Met (keyChecks (S .group) (keysIn (S .n) b))
 
-pub record Reached (R : Round) (b : List ℕ) : Type 0 where
-  pub formed : Formed R b
-  pub keys : all (λ m. ltb (keyRecord b m) (recordsIn b)) (members (R .n)) ≡ true
-  pub proper : all (isKey (groupIn R)) (keysIn (R .n) b) ≡ true
-
-pub reached : (R : Round) (b : List ℕ) → Met (boardChecks R b) → Reached R b
-reached R b m =
-    let s = All-parts (λ (c : Check). c .met ≡ true) (formChecks (R .n) b) (keyChecks R b) (m .1 .1) in
-    record { formed = record { round = (m .0, (m .1 .0, tt)); form = s .0 }; keys = s .1 .0; proper = s .1 .1 .0 }
+pub reached : (S : Setting) (b : List ℕ) → Met (boardChecks S b) → Reached S b
+unfolding boardChecks boardKeyChecks
+reached S b m =
+    let s = met-both (formChecks (S .n) b) (boardKeyChecks S b) m in
+    record { form = s .0; keys = s .1 .0; proper = s .1 .1 }
 
 -- ---- one record
+-- what its kind says of it
 pub record Shaped (n : ℕ) (r : Record) : Type 0 where
-  pub dealer : r .w1 ≤ n
-  pub member : r .w2 ≤ n
-  pub key : r .w0 ≡ 1 → r .w1 ≡ 0
-  pub line : r .w0 ≡ 2 → 1 ≤ r .w2
-  pub opening : r .w0 ≡ 3 → r .w2 ≡ 0
-  pub share : r .w0 ≡ 4 → 1 ≤ r .w2
+  pub dealer : dealerOf r ≤ n
+  pub member : memberOf r ≤ n
+  pub key : r .w0 ≡ keyKind → dealerOf r ≡ 0
+  pub line : r .w0 ≡ lineKind → (isLineRecord r ≡ true) × (1 ≤ dealerOf r) × (1 ≤ memberOf r)
+  pub opening : r .w0 ≡ openingKind → memberOf r ≡ 0
+  pub share : r .w0 ≡ shareKind → (isShareRecord r ≡ true) × (1 ≤ dealerOf r) × (1 ≤ memberOf r)
 
 module _ (n : ℕ) (r : Record) where
+  -- a record that agrees with a layout has its kind, dealer and member
+  addressed : (s : Record) → agrees r s ≡ true → (r .w0 ≡ s .w0) × (r .w1 ≡ s .w1) × (r .w2 ≡ s .w2)
+  unfolding agrees
+  addressed s e =
+      let k = and-true (eqb (r .w0) (s .w0)) _ e in
+      let d = and-true (eqb (r .w1) (s .w1)) _ (k .1) in
+      let m = and-true (eqb (r .w2) (s .w2)) _ (d .1) in
+      (eqb-true _ _ (k .0), eqb-true _ _ (d .0), eqb-true _ _ (m .0))
+
   key-shaped : isKeyRecord r ≡ true → isMember n (r .w2) ≡ true → Shaped n r
-  unfolding isKeyRecord
   key-shaped e h =
-      let a = and-true (eqb (r .w0) 1) _ e in
-      let k = eqb-true (r .w0) 1 (a .0) in
-      let d = eqb-true (r .w1) 0 (and-true (eqb (r .w1) 0) _ (a .1) .0) in
+      let a = addressed _ e in
       let m = member-exactly n (r .w2) .0 h in
-      record { dealer = omega arith; member = m .1; key = λ o. d; line = λ o. m .0; opening = λ o. absurd (omega arith); share = λ o. m .0 }
-
-  -- a line or a share: dealer and member from 1 to n
-  both-shaped : isMember n (r .w1) && isMember n (r .w2) ≡ true → (r .w0 ≡ 1 → ⊥) → (r .w0 ≡ 3 → ⊥) → Shaped n r
-  both-shaped h no-key no-opening =
-      let a = and-true (isMember n (r .w1)) (isMember n (r .w2)) h in
-      let d = member-exactly n (r .w1) .0 (a .0) in
-      let m = member-exactly n (r .w2) .0 (a .1) in
-      record { dealer = d .1; member = m .1; key = λ o. absurd (no-key o); line = λ o. m .0; opening = λ o. absurd (no-opening o); share = λ o. m .0 }
-
-  line-shaped : isLineRecord r ≡ true → isMember n (r .w1) && isMember n (r .w2) ≡ true → Shaped n r
-  unfolding isLineRecord
-  line-shaped e h =
-      let k = eqb-true (r .w0) 2 (and-true (eqb (r .w0) 2) _ e .0) in
-      both-shaped h (λ o. omega arith) (λ o. omega arith)
-
-  share-shaped : isShareRecord r ≡ true → isMember n (r .w1) && isMember n (r .w2) ≡ true → Shaped n r
-  unfolding isShareRecord
-  share-shaped e h =
-      let k = eqb-true (r .w0) 4 (and-true (eqb (r .w0) 4) _ e .0) in
-      both-shaped h (λ o. omega arith) (λ o. omega arith)
+      record { dealer = omega (arith, a .1); member = m .1; key = λ o. a .1; line = λ o. absurd (omega (arith, a .0)); opening = λ o. absurd (omega (arith, a .0)); share = λ o. absurd (omega (arith, a .0)) }
 
   opening-shaped : isOpeningRecord r ≡ true → isMember n (r .w1) ≡ true → Shaped n r
-  unfolding isOpeningRecord
   opening-shaped e h =
-      let a = and-true (eqb (r .w0) 3) _ e in
-      let k = eqb-true (r .w0) 3 (a .0) in
-      let m = eqb-true (r .w2) 0 (and-true (eqb (r .w2) 0) _ (a .1) .0) in
+      let a = addressed _ e in
       let d = member-exactly n (r .w1) .0 h in
-      record {
-        dealer = d .1;
-        member = omega arith;
-        key = λ o. absurd (omega arith);
-        line = λ o. absurd (omega arith);
-        opening = λ o. m;
-        share = λ o. absurd (omega arith);
-      }
+      record { dealer = d .1; member = omega (arith, a .2); key = λ o. absurd (omega (arith, a .0)); line = λ o. absurd (omega (arith, a .0)); opening = λ o. a .2; share = λ o. absurd (omega (arith, a .0)) }
+
+  -- a line or a share: dealer and member from 1 to n
+  module _ (h : isMember n (r .w1) && isMember n (r .w2) ≡ true) where
+    both : ((1 ≤ r .w1) × (r .w1 ≤ n)) × ((1 ≤ r .w2) × (r .w2 ≤ n))
+    both = let a = and-true (isMember n (r .w1)) (isMember n (r .w2)) h in (member-exactly n (r .w1) .0 (a .0), member-exactly n (r .w2) .0 (a .1))
+
+    line-shaped : isLineRecord r ≡ true → Shaped n r
+    line-shaped e =
+        let a = addressed _ e in
+        record { dealer = both .0 .1; member = both .1 .1; key = λ o. absurd (omega (arith, a .0)); line = λ o. (e, both .0 .0, both .1 .0); opening = λ o. absurd (omega (arith, a .0)); share = λ o. absurd (omega (arith, a .0)) }
+
+    share-shaped : isShareRecord r ≡ true → Shaped n r
+    share-shaped e =
+        let a = addressed _ e in
+        record { dealer = both .0 .1; member = both .1 .1; key = λ o. absurd (omega (arith, a .0)); line = λ o. absurd (omega (arith, a .0)); opening = λ o. absurd (omega (arith, a .0)); share = λ o. (e, both .0 .0, both .1 .0) }
 
   shaped-true : isShaped n r ≡ true → Shaped n r
   unfolding isShaped
   shaped-true e =
       pick-cases (isKeyRecord r) _ _ e key-shaped (λ x.
-      pick-cases (isLineRecord r) _ _ x line-shaped (λ y.
+      pick-cases (isLineRecord r) _ _ x (λ f h. line-shaped h f) (λ y.
       pick-cases (isOpeningRecord r) _ _ y opening-shaped (λ z.
-      pick-cases (isShareRecord r) _ _ z share-shaped (λ w. absurd (false-true w)))))
+      pick-cases (isShareRecord r) _ _ z (λ f h. share-shaped h f) (λ w. absurd (false-true w)))))
     where
       pick-cases : {P : Type 0} (b x y : Bool) → pick b x y ≡ true → (b ≡ true → x ≡ true → P) → (y ≡ true → P) → P
       pick-cases true x y e f g = f refl e
@@ -112,13 +104,13 @@ pub data Below (r : Record) (k d m : ℕ) : Type 0 where
 module _ (r : Record) (k d m : ℕ) where
   pub below-true : isBelow r k d m ≡ true → Below r k d m
   unfolding isBelow
-  below-true = by (eqb (r .w0) k) (eqb (r .w1) d) refl refl
+  below-true = by-test (eqb (r .w0) k) (eqb (r .w1) d) refl refl
     where
-      by : (x y : Bool) → eqb (r .w0) k ≡ x → eqb (r .w1) d ≡ y
+      by-test : (x y : Bool) → eqb (r .w0) k ≡ x → eqb (r .w1) d ≡ y
           → pick x (pick y (ltb (r .w2) m) (ltb (r .w1) d)) (ltb (r .w0) k) ≡ true → Below r k d m
-      by true true e f t = by-member (eqb-true (r .w0) k e) (eqb-true (r .w1) d f) (ltb-true (r .w2) m t)
-      by true false e f t = by-dealer (eqb-true (r .w0) k e) (ltb-true (r .w1) d t)
-      by false y e f t = by-kind (ltb-true (r .w0) k t)
+      by-test true true e f t = by-member (eqb-true (r .w0) k e) (eqb-true (r .w1) d f) (ltb-true (r .w2) m t)
+      by-test true false e f t = by-dealer (eqb-true (r .w0) k e) (ltb-true (r .w1) d t)
+      by-test false y e f t = by-kind (ltb-true (r .w0) k t)
 
   pub true-below : Below r k d m → isBelow r k d m ≡ true
   unfolding isBelow
@@ -157,23 +149,36 @@ members-rise {b} S i j h l =
 -- ---- every record
 module _ (n : ℕ) (b : List ℕ) where
   abbrev Next : ℕ → Type 0
-  Next x = (isShaped n (recordAt b x) ≡ true) × (pick (eqb x 0) true (isAbove (recordAt b (x - 1)) (recordAt b x)) ≡ true)
+  Next x =
+      (isShaped n (recordAt b x) ≡ true) × (isRoundless (recordAt b x) ≡ true)
+      × (pick (eqb x 0) true (isAbove (recordAt b (x - 1)) (recordAt b x)) ≡ true)
 
   records-met : (i m : ℕ) → Met (recordChecks n b i m) → (x : ℕ) → i ≤ x → x < i + m → Next x
   records-met i zero h x l u = absurd (omega arith)
   records-met i (suc m) h x l u =
-      ⊎-elim (λ w. subst Next w (h .0, h .1 .0)) (λ w. records-met (suc i) m (h .1 .1) x w (omega arith)) (eq-or-lt-of-le l)
+      ⊎-elim (λ w. subst Next w (h .0, h .1 .0, h .1 .1 .0)) (λ w. records-met (suc i) m (h .1 .1 .1) x w (omega arith)) (eq-or-lt-of-le l)
 
   module _ (form : Met (formChecks n b)) where
     each-next : (i : ℕ) → i < recordsIn b → Next i
+    unfolding formChecks
     each-next i h = records-met 0 (recordsIn b) (form .1) i (omega arith) (omega arith)
+
+    pub few-records : recordsIn b ≤ 2048
+    unfolding formChecks
+    few-records = leb-true _ _ (and-true (eqb (length b % 32) 0) _ (form .0) .1)
+
+    pub shapes : (i : ℕ) → i < recordsIn b → Shaped n (recordAt b i)
+    shapes i h = shaped-true n (recordAt b i) (each-next i h .0)
+
+    pub roundless : (i : ℕ) → i < recordsIn b → isRoundless (recordAt b i) ≡ true
+    roundless i h = each-next i h .1
 
     next-above : (i : ℕ) → suc i < recordsIn b → isAbove (recordAt b i) (recordAt b (suc i)) ≡ true
     next-above i h =
         let p : i ≡ suc i - 1 = omega arith in
         ap (λ (j : ℕ). isAbove (recordAt b j) (recordAt b (suc i))) p
         ∙ sym (pick-false (eqb (suc i) 0) true _ (ne-eqb (suc i) 0 (λ e. omega arith)))
-        ∙ each-next (suc i) h .1
+        ∙ each-next (suc i) h .2
 
     above : (i j : ℕ) → i < j → j < recordsIn b → isAbove (recordAt b i) (recordAt b j) ≡ true
     above i zero h l = absurd (not-suc-le-zero h)
@@ -184,12 +189,5 @@ module _ (n : ℕ) (b : List ℕ) where
         (λ w. below-trans (recordAt b i) (recordAt b j) (s .w0) (s .w1) (s .w2) (above i j w (omega arith)) (next-above j l))
         (eq-or-lt-of-le (le-of-suc-le-suc h))
 
-    pub form-sorted : Sorted b
-    form-sorted = record { ascends = above }
-
-module _ {R : Round} {b : List ℕ} (F : Formed R b) where
-  pub shapes : (i : ℕ) → i < recordsIn b → Shaped (R .n) (recordAt b i)
-  shapes i h = shaped-true (R .n) (recordAt b i) (each-next (R .n) b (F .form) i h .0)
-
-  pub sorted : Sorted b
-  sorted = form-sorted (R .n) b (F .form)
+    pub sorted : Sorted b
+    sorted = record { ascends = above }

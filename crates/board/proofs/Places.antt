@@ -12,10 +12,10 @@ use borrow.Author.Tests.{ltb-true, ltb-false, lt-ltb, le-ltb, eqb-true, eq-eqb, 
 use lib.Dec.{ltb, eqb}
 use Rattle.words.specs.declared.Record.{Record}
 use Rattle.words.proofs.Tests.{false-true, and-true, true-and, equal-true, true-equal}
-use Rattle.posted.specs.Records.{recordAt}
+use Rattle.records.specs.Layout.{recordAt}
 use Rattle.board.specs.Search.{recordsIn}
 use Rattle.board.specs.Board.{isBelow, Sorted, placeOf, isAt, recordBy}
-use Rattle.board.proofs.Searches.{First, first-is, first-low}
+use Rattle.board.proofs.Searches.{First, first-passes, first-low}
 use Rattle.board.proofs.Order.{Below, by-kind, by-dealer, by-member, below-true, true-below, below-member, below-trans}
 
 module _ (r : Record) (k d m : ℕ) where
@@ -34,29 +34,29 @@ module _ (r : Record) (k d m : ℕ) where
 module _ (b : List ℕ) (k d m : ℕ) where
   place-is : First (λ i. not (isBelow (recordAt b i) k d m)) 0 (recordsIn b) (placeOf b k d m)
   unfolding placeOf
-  place-is = first-is (λ i. not (isBelow (recordAt b i) k d m)) 0 (recordsIn b)
+  place-is = first-passes (λ i. not (isBelow (recordAt b i) k d m)) 0 (recordsIn b)
 
   pub place-within : placeOf b k d m ≤ recordsIn b
   place-within = omega (arith, place-is .upto)
 
   pub record-is : First (λ i. isAt (recordAt b i) k d m) 0 (recordsIn b) (recordBy b k d m)
   unfolding recordBy
-  record-is = first-is (λ i. isAt (recordAt b i) k d m) 0 (recordsIn b)
+  record-is = first-passes (λ i. isAt (recordAt b i) k d m) 0 (recordsIn b)
 
 module _ {b : List ℕ} (S : Sorted b) where
   -- ---- the law
   pub placed : (k d m i : ℕ) → i < recordsIn b → isBelow (recordAt b i) k d m ≡ ltb i (placeOf b k d m)
   placed k d m i h = elim (decLe p i) [
-    | yes w ↦ by w (isBelow (recordAt b i) k d m) refl ∙ sym (le-ltb i p w)
+    | yes w ↦ by-test w (isBelow (recordAt b i) k d m) refl ∙ sym (le-ltb i p w)
     | no w ↦ not-false (isBelow (recordAt b i) k d m) (place-is b k d m .before i (omega arith) (omega arith)) ∙ sym (lt-ltb i p (omega arith))
   ]
     where
       p : ℕ
       p = placeOf b k d m
 
-      by : p ≤ i → (x : Bool) → isBelow (recordAt b i) k d m ≡ x → isBelow (recordAt b i) k d m ≡ false
-      by w false e = e
-      by w true e =
+      by-test : p ≤ i → (x : Bool) → isBelow (recordAt b i) k d m ≡ x → isBelow (recordAt b i) k d m ≡ false
+      by-test w false e = e
+      by-test w true e =
           let here : isBelow (recordAt b p) k d m ≡ false = not-true (isBelow (recordAt b p) k d m) (place-is b k d m .here (omega arith)) in
           let low : isBelow (recordAt b p) k d m ≡ true =
           ⊎-elim (λ v. ap (λ (x : ℕ). isBelow (recordAt b x) k d m) v ∙ e)
@@ -134,7 +134,7 @@ module _ {b : List ℕ} (S : Sorted b) where
         wide (by-member e f h) = by-member e f (omega arith)
 
     pub in-run : (i : ℕ) → placeOf b k d 0 ≤ i → i < placeOf b k d 32 → (recordAt b i .w0 ≡ k) × (recordAt b i .w1 ≡ d)
-    in-run i h l = by (before-place k d 32 i inside l)
+    in-run i h l = by-order (before-place k d 32 i inside l)
       where
         inside : i < recordsIn b
         inside = omega (arith, place-within b k d 32)
@@ -142,10 +142,10 @@ module _ {b : List ℕ} (S : Sorted b) where
         not-before : Below (recordAt b i) k d 0 → ⊥
         not-before w = omega (arith, below-place k d 0 i inside w)
 
-        by : Below (recordAt b i) k d 32 → (recordAt b i .w0 ≡ k) × (recordAt b i .w1 ≡ d)
-        by (by-kind a) = absurd (not-before (by-kind a))
-        by (by-dealer e a) = absurd (not-before (by-dealer e a))
-        by (by-member e f a) = (e, f)
+        by-order : Below (recordAt b i) k d 32 → (recordAt b i .w0 ≡ k) × (recordAt b i .w1 ≡ d)
+        by-order (by-kind a) = absurd (not-before (by-kind a))
+        by-order (by-dealer e a) = absurd (not-before (by-dealer e a))
+        by-order (by-member e f a) = (e, f)
 
     pub to-run : (i : ℕ) → i < recordsIn b → recordAt b i .w0 ≡ k → recordAt b i .w1 ≡ d → recordAt b i .w2 < 32
         → (placeOf b k d 0 ≤ i) × (i < placeOf b k d 32)

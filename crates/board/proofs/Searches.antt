@@ -21,13 +21,13 @@ pub record First (f : ℕ → Bool) (i m r : ℕ) : Type 0 where
   pub before : (j : ℕ) → i ≤ j → j < r → f j ≡ false
   pub here : r < i + m → f r ≡ true
 
-pub first-is : (f : ℕ → Bool) (i m : ℕ) → First f i m (first f i m)
-first-is f i zero = record { from = omega arith; upto = omega arith; before = λ j h l. absurd (omega arith); here = λ h. absurd (omega arith) }
-first-is f i (suc m) = by (f i) refl (first-is f (suc i) m)
+pub first-passes : (f : ℕ → Bool) (i m : ℕ) → First f i m (first f i m)
+first-passes f i zero = record { from = omega arith; upto = omega arith; before = λ j h l. absurd (omega arith); here = λ h. absurd (omega arith) }
+first-passes f i (suc m) = by-test (f i) refl (first-passes f (suc i) m)
   where
-    by : (b : Bool) → f i ≡ b → First f (suc i) m (first f (suc i) m) → First f i (suc m) (pick b i (first f (suc i) m))
-    by true e r = record { from = omega arith; upto = omega arith; before = λ j h l. absurd (omega arith); here = λ h. e }
-    by false e r =
+    by-test : (b : Bool) → f i ≡ b → First f (suc i) m (first f (suc i) m) → First f i (suc m) (pick b i (first f (suc i) m))
+    by-test true e r = record { from = omega arith; upto = omega arith; before = λ j h l. absurd (omega arith); here = λ h. e }
+    by-test false e r =
         record {
           from = omega (arith, r .from);
           upto = omega (arith, r .upto);
@@ -39,17 +39,17 @@ first-is f i (suc m) = by (f i) refl (first-is f (suc i) m)
 pub first-low : (f : ℕ → Bool) (i m j : ℕ) → i ≤ j → f j ≡ true → first f i m ≤ j
 first-low f i m j h e = elim (decLe (first f i m) j) [
   | yes w ↦ w
-  | no w ↦ absurd (false-true (sym (first-is f i m .before j h (omega arith)) ∙ e))
+  | no w ↦ absurd (false-true (sym (first-passes f i m .before j h (omega arith)) ∙ e))
 ]
 
 -- ---- filters
 pub filter-all : (f : ℕ → Bool) (P : ℕ → Type 0) (xs : List ℕ) → All P xs → All (λ x. P x × (f x ≡ true)) (filter f xs)
 filter-all f P [] h = tt
-filter-all f P (x ∷ xs) h = by (f x) refl (filter-all f P xs (h .1))
+filter-all f P (x ∷ xs) h = by-test (f x) refl (filter-all f P xs (h .1))
   where
-    by : (b : Bool) → f x ≡ b → All (λ x. P x × (f x ≡ true)) (filter f xs) → All (λ x. P x × (f x ≡ true)) (pick b (x ∷ filter f xs) (filter f xs))
-    by true e r = ((h .0, e), r)
-    by false e r = r
+    by-test : (b : Bool) → f x ≡ b → All (λ x. P x × (f x ≡ true)) (filter f xs) → All (λ x. P x × (f x ≡ true)) (pick b (x ∷ filter f xs) (filter f xs))
+    by-test true e r = ((h .0, e), r)
+    by-test false e r = r
 
 pub filter-up : (f : ℕ → Bool) (i m : ℕ) → All (λ x. ((i ≤ x) × (x < i + m)) × (f x ≡ true)) (filter f (upFrom i m))
 filter-up f i m = filter-all f (λ x. (i ≤ x) × (x < i + m)) (upFrom i m) (up-within i m (i + m) (omega arith))
@@ -94,26 +94,26 @@ module _ (f : ℕ → Bool) where
       ∙ ap (λ (x : ℕ). filter f (upFrom x (e - s))) z)
     where
       outside : (x : ℕ) → x < n → ((s ≤ x) × (x < e) → ⊥) → f x ≡ false
-      outside x u w = by (f x) refl
+      outside x u w = by-test (f x) refl
         where
-          by : (t : Bool) → f x ≡ t → f x ≡ false
-          by true e = absurd (w (in-run x u e))
-          by false e = e
+          by-test : (t : Bool) → f x ≡ t → f x ≡ false
+          by-test true e = absurd (w (in-run x u e))
+          by-test false e = e
 
 -- ---- ascending lists
 -- a figure that grows over the numbers that pass ascends over what is kept of them
 pub filter-ascending : (f : ℕ → Bool) (g : ℕ → ℕ) (i m : ℕ)
     → ((x y : ℕ) → x < y → y < i + m → f x ≡ true → f y ≡ true → g x < g y) → Ascending (map g (filter f (upFrom i m)))
 filter-ascending f g i zero h = tt
-filter-ascending f g i (suc m) h = by (f i) refl (filter-ascending f g (suc i) m (λ x y l u. h x y l (omega arith)))
+filter-ascending f g i (suc m) h = by-test (f i) refl (filter-ascending f g (suc i) m (λ x y l u. h x y l (omega arith)))
   where
     rest : List ℕ
     rest = filter f (upFrom (suc i) m)
 
-    by : (b : Bool) → f i ≡ b → Ascending (map g rest) → Ascending (map g (pick b (i ∷ rest) rest))
-    by true e r =
+    by-test : (b : Bool) → f i ≡ b → Ascending (map g rest) → Ascending (map g (pick b (i ∷ rest) rest))
+    by-test true e r =
         (map-all g (λ y. g i < y) rest (All-to rest (λ x s. h i x (s .0 .0) (omega (arith, s .0 .1)) e (s .1)) (filter-up f (suc i) m)), r)
-    by false e r = r
+    by-test false e r = r
 
 pub take-ascending : (k : ℕ) (xs : List ℕ) → Ascending xs → Ascending (take k xs)
 take-ascending zero xs h = tt

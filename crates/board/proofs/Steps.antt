@@ -10,7 +10,7 @@ use Rattle.words.specs.Choice.{pick}
 use Rattle.words.specs.Checks.{refusal}
 use Rattle.words.specs.declared.Record.{Record}
 use Rattle.words.proofs.Tests.{pick-true, pick-false}
-use Rattle.posted.specs.Records.{recordAt}
+use Rattle.records.specs.Layout.{isRoundless, recordAt}
 use Rattle.board.specs.Board.{isShaped, isAbove, recordChecks}
 
 -- ---- counting up to n
@@ -30,8 +30,8 @@ inOrder b i = pick (eqb i 0) true (isAbove (recordAt b (i - 1)) (recordAt b i))
 
 -- the tests of the record r that was read at i, with that of the one before
 module _ (b : List ℕ) (i : ℕ) {r : Record} (e : r ≡ recordAt b i) where
-  pub shape-found : (n : ℕ) {s t : Bool} → s ≡ isShaped n r → s ≡ t → isShaped n (recordAt b i) ≡ t
-  shape-found n f g = ap (isShaped n) (sym e) ∙ sym f ∙ g
+  pub test-found : (test : Record → Bool) {s t : Bool} → s ≡ test r → s ≡ t → test (recordAt b i) ≡ t
+  test-found test f g = ap test (sym e) ∙ sym f ∙ g
 
   pub order-found : {q : Record} {s t : Bool} → 0 < i → q ≡ recordAt b (i - 1) → s ≡ isAbove q r → s ≡ t → inOrder b i ≡ t
   order-found h d f g = pick-false (eqb i 0) true _ (ne-eqb i 0 (λ z. omega arith)) ∙ (λ j. isAbove (sym d j) (sym e j)) ∙ sym f ∙ g
@@ -44,19 +44,29 @@ module _ (n : ℕ) (b : List ℕ) (m i : ℕ) where
   abbrev pub refusalFrom : ℕ → ℕ
   refusalFrom j = refusal (recordChecks n b j (m - j))
 
-  record-turn : i < m → refusalFrom i ≡ pick (isShaped n (recordAt b i)) (pick (inOrder b i) (refusalFrom (i + 1)) 5) 4
+  abbrev shape : Bool
+  shape = isShaped n (recordAt b i)
+
+  abbrev plain : Bool
+  plain = isRoundless (recordAt b i)
+
+  record-turn : i < m → refusalFrom i ≡ pick shape (pick plain (pick (inOrder b i) (refusalFrom (i + 1)) 5) 4) 4
   record-turn h =
       ap (λ (k : ℕ). refusal (recordChecks n b i k)) (one-less m i h)
-      ∙ ap (λ (j : ℕ). pick (isShaped n (recordAt b i)) (pick (inOrder b i) (refusal (recordChecks n b j (m - (i + 1)))) 5) 4) (one-more i)
+      ∙ ap (λ (j : ℕ). pick shape (pick plain (pick (inOrder b i) (refusal (recordChecks n b j (m - (i + 1)))) 5) 4) 4) (one-more i)
 
   pub unshaped : i < m → isShaped n (recordAt b i) ≡ false → refusalFrom i ≡ 4
-  unshaped h e = record-turn h ∙ pick-false (isShaped n (recordAt b i)) _ 4 e
+  unshaped h e = record-turn h ∙ pick-false shape _ 4 e
 
-  pub unordered : i < m → isShaped n (recordAt b i) ≡ true → inOrder b i ≡ false → refusalFrom i ≡ 5
-  unordered h e f = record-turn h ∙ pick-true (isShaped n (recordAt b i)) _ 4 e ∙ pick-false (inOrder b i) _ 5 f
+  module _ (h : i < m) (e : isShaped n (recordAt b i) ≡ true) where
+    pub unplain : isRoundless (recordAt b i) ≡ false → refusalFrom i ≡ 4
+    unplain f = record-turn h ∙ pick-true shape _ 4 e ∙ pick-false plain _ 4 f
 
-  pub record-passed : i < m → isShaped n (recordAt b i) ≡ true → inOrder b i ≡ true → refusalFrom i ≡ refusalFrom (i + 1)
-  record-passed h e f = record-turn h ∙ pick-true (isShaped n (recordAt b i)) _ 4 e ∙ pick-true (inOrder b i) _ 5 f
+    pub unordered : isRoundless (recordAt b i) ≡ true → inOrder b i ≡ false → refusalFrom i ≡ 5
+    unordered f g = record-turn h ∙ pick-true shape _ 4 e ∙ pick-true plain _ 4 f ∙ pick-false (inOrder b i) _ 5 g
+
+    pub record-passed : isRoundless (recordAt b i) ≡ true → inOrder b i ≡ true → refusalFrom i ≡ refusalFrom (i + 1)
+    record-passed f g = record-turn h ∙ pick-true shape _ 4 e ∙ pick-true plain _ 4 f ∙ pick-true (inOrder b i) _ 5 g
 
   pub records-passed : m ≤ i → refusalFrom i ≡ 0
   records-passed h = ap (λ (k : ℕ). refusal (recordChecks n b i k)) (none-left m i h)

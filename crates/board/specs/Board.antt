@@ -7,40 +7,44 @@ use lib.ListN.{length, take, drop}
 use lib.Dec.{leb, ltb, eqb}
 use Rattle.words.specs.Choice.{pick}
 use Rattle.words.specs.Lists.{map, all}
-use Rattle.words.specs.Checks.{Check, _unless_, lentAfter}
+use Rattle.words.specs.Checks.{Check, _unless_, Outcome}
 use Rattle.words.specs.declared.Record.{Record}
-use Rattle.sharing.specs.Round.{groupIn, roundChecks, isMember, members}
+use Rattle.sharing.specs.Setting.{judged, judgedElse, isMember, members}
 use Rattle.sharing.specs.declared.Round.{Round}
-use Rattle.posted.specs.Records.{isKeyRecord, isLineRecord, isOpeningRecord, isShareRecord, recordAt, isKey}
+use Rattle.sharing.specs.declared.Setting.{Setting}
+use Rattle.records.specs.Layout.{keyKind, lineKind, openingKind, dealerOf, memberOf, yOf}
+use Rattle.records.specs.Layout.{isKeyRecord, isLineRecord, isOpeningRecord, isShareRecord, isRoundless, recordAt}
+use Rattle.records.specs.Keys.{keyChecks}
 use Rattle.board.specs.Search.{first, recordsIn}
 
 -- ---- form and order
--- a record of the table: its kind known, its dealer and member in range or 0 as the table has it, its spare words zero
+-- a record of the table: its kind known, its dealer and member in range or 0 as the table has it, its spare words but the last zero
 unfoldable pub isShaped : ℕ → Record → Bool
 isShaped n r =
-    pick (isKeyRecord r) (isMember n (r .w2))
-    (pick (isLineRecord r) (isMember n (r .w1) && isMember n (r .w2))
-    (pick (isOpeningRecord r) (isMember n (r .w1))
-    (pick (isShareRecord r) (isMember n (r .w1) && isMember n (r .w2)) false)))
+    pick (isKeyRecord r) (isMember n (memberOf r))
+    (pick (isLineRecord r) (isMember n (dealerOf r) && isMember n (memberOf r))
+    (pick (isOpeningRecord r) (isMember n (dealerOf r))
+    (pick (isShareRecord r) (isMember n (dealerOf r) && isMember n (memberOf r)) false)))
 
 -- a record's address is its kind, dealer and member; r is below the address k, d, m: by kind, then dealer, then member
 unfoldable pub isBelow : Record → ℕ → ℕ → ℕ → Bool
-isBelow r k d m = pick (eqb (r .w0) k) (pick (eqb (r .w1) d) (ltb (r .w2) m) (ltb (r .w1) d)) (ltb (r .w0) k)
+isBelow r k d m = pick (eqb (r .w0) k) (pick (eqb (dealerOf r) d) (ltb (memberOf r) m) (ltb (dealerOf r) d)) (ltb (r .w0) k)
 
 -- s is above r
 abbrev pub isAbove : Record → Record → Bool
-isAbove r s = isBelow r (s .w0) (s .w1) (s .w2)
+isAbove r s = isBelow r (s .w0) (dealerOf s) (memberOf s)
 
--- record by record, for m records from the record i on: 4, and then 5
+-- record by record, for m records from the record i on: 4 a shape that is none of the table's, or a last word, and then 5
 abbrev pub recordChecks : ℕ → List ℕ → ℕ → ℕ → List Check
 recordChecks n b i zero = []
 recordChecks n b i (suc m) =
     4 unless isShaped n (recordAt b i)
+    ∷ 4 unless isRoundless (recordAt b i)
     ∷ 5 unless pick (eqb i 0) true (isAbove (recordAt b (i - 1)) (recordAt b i))
     ∷ recordChecks n b (suc i) m
 
 -- whole records, at most 2,048, each in form and above the one before
-abbrev pub formChecks : ℕ → List ℕ → List Check
+unfoldable pub formChecks : ℕ → List ℕ → List Check
 formChecks n b = 3 unless (eqb (length b % 32) 0 && leb (recordsIn b) 2048) ∷ recordChecks n b 0 (recordsIn b)
 
 -- every record is above those before it
@@ -54,7 +58,7 @@ placeOf b k d m = first (λ i. not (isBelow (recordAt b i) k d m)) 0 (recordsIn 
 
 -- r has the address k, d, m
 unfoldable pub isAt : Record → ℕ → ℕ → ℕ → Bool
-isAt r k d m = eqb (r .w0) k && (eqb (r .w1) d && eqb (r .w2) m)
+isAt r k d m = eqb (r .w0) k && (eqb (dealerOf r) d && eqb (memberOf r) m)
 
 -- the record with this address, the number of records where there is none
 unfoldable pub recordBy : List ℕ → ℕ → ℕ → ℕ → ℕ
@@ -63,36 +67,33 @@ recordBy b k d m = first (λ i. isAt (recordAt b i) k d m) 0 (recordsIn b)
 -- ---- keys
 -- the record of the key of member m
 abbrev pub keyRecord : List ℕ → ℕ → ℕ
-keyRecord b m = recordBy b 1 0 m
+keyRecord b m = recordBy b keyKind 0 m
 
 -- member m has one
 abbrev pub hasKey : List ℕ → ℕ → Bool
 hasKey b m = ltb (keyRecord b m) (recordsIn b)
 
 unfoldable pub keyIn : List ℕ → ℕ → ℕ
-keyIn b m = recordAt b (keyRecord b m) .w3
+keyIn b m = yOf (recordAt b (keyRecord b m))
 
 abbrev pub keysIn : ℕ → List ℕ → List ℕ
 keysIn n b = map (keyIn b) (members n)
 
 -- 12 a key missing, 6 a bad key
-abbrev pub keyChecks : Round → List ℕ → List Check
-keyChecks R b =
-    12 unless all (hasKey b) (members (R .n))
-    ∷ 6 unless all (isKey (groupIn R)) (keysIn (R .n) b)
-    ∷ []
+unfoldable pub boardKeyChecks : Setting → List ℕ → List Check
+boardKeyChecks S b = 12 unless all (hasKey b) (members (S .n)) ∷ keyChecks (S .group) (keysIn (S .n) b)
 
--- ---- what is refused before verdicts: 1, 2; 3; record by record 4 and 5; 12 and 6
-abbrev pub boardChecks : Round → List ℕ → List Check
-boardChecks R b = roundChecks R ++ (formChecks (R .n) b ++ keyChecks R b)
+-- ---- what is refused before verdicts: 3; record by record 4 and 5; 12 and 6
+unfoldable pub boardChecks : Setting → List ℕ → List Check
+boardChecks S b = formChecks (S .n) b ++ boardKeyChecks S b
 
 -- ---- a dealer's lines
 -- members are at most 31, so his lines stand from the place of member 0 to that of member 32
 abbrev pub linesStart : List ℕ → ℕ → ℕ
-linesStart b d = placeOf b 2 d 0
+linesStart b d = placeOf b lineKind d 0
 
 abbrev pub linesEnd : List ℕ → ℕ → ℕ
-linesEnd b d = placeOf b 2 d 32
+linesEnd b d = placeOf b lineKind d 32
 
 unfoldable pub lineCount : List ℕ → ℕ → ℕ
 lineCount b d = linesEnd b d - linesStart b d
@@ -102,16 +103,20 @@ unfoldable pub linesOf : List ℕ → ℕ → List ℕ
 linesOf b d = take (32 * linesEnd b d - 32 * linesStart b d) (drop (32 * linesStart b d) b)
 
 -- the checks of both operations on a dealer's lines
-abbrev pub linesChecks : Round → ℕ → List ℕ → List Check
-linesChecks R d b = roundChecks R ++ (8 unless isMember (R .n) d ∷ formChecks (R .n) b)
+unfoldable pub linesChecks : Setting → ℕ → List ℕ → List Check
+linesChecks S d b = 8 unless isMember (S .n) d ∷ formChecks (S .n) b
+
+-- whether his lines can be told
+unfoldable pub linesOutcome : Round → ℕ → List ℕ → Outcome (Unit {0})
+linesOutcome R d b = judged R (λ S. linesChecks S d b) (λ S. tt)
 
 -- the part that is handed back: empty where a check refuses
 unfoldable pub linesPart : Round → ℕ → List ℕ → List ℕ
-linesPart R d b = lentAfter (linesChecks R d b) (linesOf b d) []
+linesPart R d b = judgedElse R (λ S. linesChecks S d b) (λ S. linesOf b d) []
 
 -- how many bytes behind the board's start that part begins: where his lines do or would, at the start itself where the number is refused
 unfoldable pub linesAt : Round → ℕ → List ℕ → ℕ
-linesAt R d b = lentAfter (linesChecks R d b) (32 * linesStart b d) 0
+linesAt R d b = judgedElse R (λ S. linesChecks S d b) (λ S. 32 * linesStart b d) 0
 
 -- the place so many bytes behind a place in memory, which is a block and an offset in it
 abbrev pub behind : ℕ → ℕ × ℕ → ℕ × ℕ
@@ -119,4 +124,4 @@ behind k p = (p .0, k + p .1)
 
 -- ---- a dealer's opening
 abbrev pub openingRecord : List ℕ → ℕ → ℕ
-openingRecord b d = recordBy b 3 d 0
+openingRecord b d = recordBy b openingKind d 0

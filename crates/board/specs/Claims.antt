@@ -5,35 +5,36 @@ use mathlib.Core.List.{List}
 use Prim.Native.Nat.{ℕ, _+_, _*_, _<_, _≤_}
 use lib.ListN.{length}
 use Rattle.words.specs.Checks.{Met}
-use Rattle.sharing.specs.Round.{groupIn, roundChecks}
-use Rattle.sharing.specs.declared.Round.{Round}
-use Rattle.posted.specs.Records.{recordAt, recordOf, isKey}
+use Rattle.sharing.specs.Setting.{ProperSetting}
+use Rattle.sharing.specs.declared.Setting.{Setting}
+use Rattle.records.specs.Layout.{keyKind, lineKind, dealerOf, memberOf, recordAt, recordOf}
+use Rattle.records.specs.Keys.{isKey}
 use Rattle.board.specs.Search.{recordsIn}
 use Rattle.board.specs.Board.{formChecks, boardChecks, keyRecord, keyIn, linesStart, linesEnd, lineCount, linesOf}
 
 -- ---- keys
 -- the record that keyRecord finds is the one key record of member m, and holds a proper key
-pub record ExactKey (R : Round) (b : List ℕ) (m : ℕ) : Type 0 where
+pub record ExactKey (S : Setting) (b : List ℕ) (m : ℕ) : Type 0 where
   pub inside : keyRecord b m < recordsIn b
-  pub kind : recordAt b (keyRecord b m) .w0 ≡ 1
-  pub member : recordAt b (keyRecord b m) .w2 ≡ m
-  pub only : (i : ℕ) → i < recordsIn b → recordAt b i .w0 ≡ 1 → recordAt b i .w2 ≡ m → i ≡ keyRecord b m
-  pub proper : isKey (groupIn R) (keyIn b m) ≡ true
+  pub kind : recordAt b (keyRecord b m) .w0 ≡ keyKind
+  pub member : memberOf (recordAt b (keyRecord b m)) ≡ m
+  pub only : (i : ℕ) → i < recordsIn b → recordAt b i .w0 ≡ keyKind → memberOf (recordAt b i) ≡ m → i ≡ keyRecord b m
+  pub proper : isKey (S .group) (keyIn b m) ≡ true
 
 abbrev pub KeysExact : Type 0
-KeysExact = (R : Round) (b : List ℕ) → Met (boardChecks R b) → (m : ℕ) → 1 ≤ m → m ≤ R .n → ExactKey R b m
+KeysExact = (S : Setting) (b : List ℕ) → Met (boardChecks S b) → (m : ℕ) → 1 ≤ m → m ≤ S .n → ExactKey S b m
 
 -- ---- a dealer's lines
 -- the part of the board holds exactly the dealer's lines, in place; where he has n, each member's line stands at the member's place
 pub record ExactLines (n : ℕ) (b : List ℕ) (d : ℕ) : Type 0 where
   pub inside : linesEnd b d ≤ recordsIn b
   pub rising : linesStart b d ≤ linesEnd b d
-  pub only-lines : (i : ℕ) → linesStart b d ≤ i → i < linesEnd b d → (recordAt b i .w0 ≡ 2) × (recordAt b i .w1 ≡ d)
-  pub all-lines : (i : ℕ) → i < recordsIn b → recordAt b i .w0 ≡ 2 → recordAt b i .w1 ≡ d → (linesStart b d ≤ i) × (i < linesEnd b d)
+  pub only-lines : (i : ℕ) → linesStart b d ≤ i → i < linesEnd b d → (recordAt b i .w0 ≡ lineKind) × (dealerOf (recordAt b i) ≡ d)
+  pub all-lines : (i : ℕ) → i < recordsIn b → recordAt b i .w0 ≡ lineKind → dealerOf (recordAt b i) ≡ d → (linesStart b d ≤ i) × (i < linesEnd b d)
   pub size : length (linesOf b d) ≡ 32 * lineCount b d
   pub in-place : (k : ℕ) → k < lineCount b d → recordAt (linesOf b d) k ≡ recordAt b (linesStart b d + k)
-  pub by-member : lineCount b d ≡ n → (i : ℕ) → 1 ≤ i → i ≤ n → recordOf (linesOf b d) i .w2 ≡ i
+  pub by-member : lineCount b d ≡ n → (i : ℕ) → 1 ≤ i → i ≤ n → memberOf (recordOf (linesOf b d) i) ≡ i
 
 -- on every board of which the form and order of records is not refused
 abbrev pub LinesExact : Type 0
-LinesExact = (R : Round) (b : List ℕ) → Met (roundChecks R) → Met (formChecks (R .n) b) → (d : ℕ) → ExactLines (R .n) b d
+LinesExact = (S : Setting) (b : List ℕ) → ProperSetting S → Met (formChecks (S .n) b) → (d : ℕ) → ExactLines (S .n) b d

@@ -4,15 +4,16 @@ ghost use Rattle.words.specs.Checks.{refusal};
 ghost use Rattle.board.specs.Search.{recordsIn};
 ghost use Rattle.board.specs.Board.{isShaped, isBelow, recordChecks, formChecks};
 use crate::search::records;
-use posted::is_key_record;
-use posted::is_line_record;
-use posted::is_opening_record;
-use posted::is_share_record;
-use posted::record_at;
+use records::is_key_record;
+use records::is_line_record;
+use records::is_opening_record;
+use records::is_roundless;
+use records::is_share_record;
+use records::record_at;
 use sharing::is_member;
 use words::Record;
 
-// Whether r is a record of the table, for n members.
+// Whether r is a record of the table, for n members; its last word is tested apart.
 fn is_shaped(n: u32, r: Record) -> bool
     ensures { λ a. ⌜ a ≡ isShaped n r ⌝ }
 {
@@ -44,7 +45,8 @@ pub(crate) fn is_below(r: Record, k: u32, d: u32, m: u32) -> bool
     r.w2 < m
 }
 
-// Record by record: 4 a record that is none of the table; 5 a record that is not above the one before. 0 where there is none.
+// Record by record: 4 a record that is none of the table, or has a last word; 5 a record that is not above the one before. 0 where there
+// is none.
 fn records_refusal(n: u32, b: &[u8]) -> u32
     ensures { λ r. ⌜ r ≡ refusal (recordChecks n (now (b .entry)) 0 (recordsIn (now (b .entry)))) ⌝ }
 {
@@ -53,6 +55,9 @@ fn records_refusal(n: u32, b: &[u8]) -> u32
     while i < all {
         let r = record_at(b, i);
         if !is_shaped(n, r) {
+            return 4;
+        }
+        if !is_roundless(r) {
             return 4;
         }
         if i > 0 {

@@ -4,16 +4,14 @@ ghost use mathlib.Core.Bool.{true};
 ghost use Prim.Native.Nat.{_≤_};
 ghost use Rattle.words.specs.Lists.{all, filled};
 ghost use Rattle.words.specs.Checks.{refusal};
-ghost use Rattle.sharing.specs.Round.{groupIn, members};
-ghost use Rattle.board.specs.Board.{Sorted, hasKey, keysIn, keyChecks, boardChecks};
+ghost use Rattle.sharing.specs.Setting.{ProperSetting, members};
+ghost use Rattle.board.specs.Board.{Sorted, hasKey, keysIn, boardKeyChecks, boardChecks};
 use crate::form::form_refusal;
 use crate::search::find_key;
 use crate::search::records;
-use group::Group;
-use group::GroupAnswer;
-use posted::all_keys;
-use sharing::Round;
-use sharing::round_group;
+use records::keys_refusal;
+use records::record_at;
+use sharing::Setting;
 
 // Whether each member has a key record.
 // Internal: callers ensure that the records ascend.
@@ -41,40 +39,34 @@ pub fn board_keys(b: &[u8], n: u32) -> [u32; 31]
     let mut i: u32 = 0;
     while i < n {
         let at = i as usize;
-        ys[at] = words::word_at(b, 32 * find_key(b, i + 1) + 12);
+        ys[at] = record_at(b, find_key(b, i + 1)).w3;
         i += 1;
     }
     ys
 }
 
 // What the keys are refused by: 12 a key missing; 6 a bad key. 0 where they are not.
-// Internal: callers ensure that gr is the round's group, that there are at most 31 members, and that the records ascend.
-fn keys_refusal(gr: Group, rd: Round, b: &[u8]) -> u32
-    requires { ⌜ (groupIn rd ≡ gr) × (rd .n ≤ 31) × (Sorted (now b)) ⌝ }
-    ensures { λ r. ⌜ r ≡ refusal (keyChecks rd (now (b .entry))) ⌝ }
+// Internal: callers ensure that the setting is proper and that the records ascend.
+fn board_keys_refusal(s: Setting, b: &[u8]) -> u32
+    requires { ⌜ (ProperSetting s) × (Sorted (now b)) ⌝ }
+    ensures { λ r. ⌜ r ≡ refusal (boardKeyChecks s (now (b .entry))) ⌝ }
 {
-    if !has_keys(b, rd.n) {
+    if !has_keys(b, s.n) {
         return 12;
     }
-    let n = rd.n as usize;
-    if !all_keys(gr, &board_keys(b, rd.n)[0..n]) {
-        return 6;
-    }
-    0
+    let n = s.n as usize;
+    keys_refusal(s.group, &board_keys(b, s.n)[..n])
 }
 
-// What a board is refused by before verdicts: 1 and 2 as round_group; 3, 4 and 5 its form; 12 and 6 its keys. 0 where it is not.
-pub fn board_refusal(rd: Round, b: &[u8]) -> u32
-    ensures { λ r. ⌜ r ≡ refusal (boardChecks rd (now (b .entry))) ⌝ }
+// What a board is refused by before verdicts: 3, 4 and 5 its form; 12 and 6 its keys. 0 where it is not.
+// Internal: callers ensure that the setting is proper.
+pub fn board_refusal_in(s: Setting, b: &[u8]) -> u32
+    requires { ⌜ ProperSetting s ⌝ }
+    ensures { λ r. ⌜ r ≡ refusal (boardChecks s (now (b .entry))) ⌝ }
 {
-    match round_group(rd) {
-        GroupAnswer::Refused(k) => k,
-        GroupAnswer::Value(gr) => {
-            let k = form_refusal(rd.n, b);
-            if k != 0 {
-                return k;
-            }
-            keys_refusal(gr, rd, b)
-        }
+    let k = form_refusal(s.n, b);
+    if k != 0 {
+        return k;
     }
+    board_keys_refusal(s, b)
 }

@@ -5,7 +5,7 @@ mod lines;
 mod search;
 
 pub use keys::board_keys;
-pub use keys::board_refusal;
+pub use keys::board_refusal_in;
 pub use lines::dealer_lines;
 pub use lines::lines_check;
 pub use lines::lines_of;

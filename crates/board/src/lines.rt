@@ -2,16 +2,18 @@
 ghost use mathlib.Core.Path.{_≡_};
 ghost use Prim.Native.Nat.{_*_};
 ghost use denote.Ref.{ptr};
-ghost use Rattle.words.specs.Checks.{outcome};
+ghost use Rattle.words.specs.Checks.{refusal};
 ghost use Rattle.sharing.specs.Answer.{checkOutcomeOf};
-ghost use Rattle.board.specs.Board.{Sorted, linesStart, linesOf, linesChecks, linesPart, linesAt, behind};
+ghost use Rattle.board.specs.Board.{Sorted, linesStart, linesOf, linesChecks, linesOutcome, linesPart, linesAt, behind};
 use crate::form::form_refusal;
 use crate::search::place_of;
-use group::GroupAnswer;
+use records::LINE;
 use sharing::CheckAnswer;
 use sharing::Round;
+use sharing::Setting;
+use sharing::SettingAnswer;
 use sharing::is_member;
-use sharing::round_group;
+use sharing::setting_of;
 
 // The lines of dealer d as they lie on the board.
 // Internal: callers ensure that the records ascend.
@@ -20,22 +22,29 @@ pub fn lines_of(b: &[u8], d: u32) -> &[u8]
     ensures { λ r. ⌜ now r ≡ linesOf (now (b .entry)) d ⌝ }
     ensures { λ r. ⌜ ptr r ≡ behind (32 * linesStart (now (b .entry)) d) (ptr (b .entry)) ⌝ }
 {
-    let from = 32 * place_of(b, 2, d, 0);
-    let to = 32 * place_of(b, 2, d, 32);
+    let from = 32 * place_of(b, LINE, d, 0);
+    let to = 32 * place_of(b, LINE, d, 32);
     &b[from..to]
 }
 
-// Whether the lines of dealer d can be told. Refused: 1 and 2 as round_group; 8 d is no member; 3, 4 and 5 the board's form.
-pub fn lines_check(rd: Round, d: u32, b: &[u8]) -> CheckAnswer
-    ensures { λ r. ⌜ checkOutcomeOf r ≡ outcome (linesChecks rd d (now (b .entry))) tt ⌝ }
+// What the lines of dealer d are refused by: 8 d is no member; 3, 4 and 5 the board's form. 0 where they are not.
+fn lines_refusal(s: Setting, d: u32, b: &[u8]) -> u32
+    ensures { λ r. ⌜ r ≡ refusal (linesChecks s d (now (b .entry))) ⌝ }
 {
-    match round_group(rd) {
-        GroupAnswer::Refused(k) => CheckAnswer::Refused(k),
-        GroupAnswer::Value(_) => {
-            if !is_member(rd.n, d) {
-                return CheckAnswer::Refused(8);
-            }
-            let k = form_refusal(rd.n, b);
+    if !is_member(s.n, d) {
+        return 8;
+    }
+    form_refusal(s.n, b)
+}
+
+// Whether the lines of dealer d can be told. Refused: 1 and 2 as setting_of; 8 d is no member; 3, 4 and 5 the board's form.
+pub fn lines_check(rd: Round, d: u32, b: &[u8]) -> CheckAnswer
+    ensures { λ r. ⌜ checkOutcomeOf r ≡ linesOutcome rd d (now (b .entry)) ⌝ }
+{
+    match setting_of(rd) {
+        SettingAnswer::Refused(k) => CheckAnswer::Refused(k),
+        SettingAnswer::Value(s) => {
+            let k = lines_refusal(s, d, b);
             if k != 0 {
                 return CheckAnswer::Refused(k);
             }

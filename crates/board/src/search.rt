@@ -3,7 +3,9 @@ ghost use mathlib.Core.Path.{_≡_};
 ghost use Rattle.board.specs.Search.{recordsIn};
 ghost use Rattle.board.specs.Board.{Sorted, placeOf, isAt, recordBy, keyRecord, openingRecord};
 use crate::form::is_below;
-use posted::record_at;
+use records::KEY;
+use records::OPENING;
+use records::record_at;
 use words::Record;
 
 // The number of records.
@@ -68,7 +70,7 @@ pub fn find_key(b: &[u8], m: u32) -> usize
     requires { ⌜ Sorted (now b) ⌝ }
     ensures { λ r. ⌜ r ≡ keyRecord (now (b .entry)) m ⌝ }
 {
-    record_by(b, 1, 0, m)
+    record_by(b, KEY, 0, m)
 }
 
 // The record of the opening of dealer d, the number of records where there is none.
@@ -77,5 +79,5 @@ pub fn find_opening(b: &[u8], d: u32) -> usize
     requires { ⌜ Sorted (now b) ⌝ }
     ensures { λ r. ⌜ r ≡ openingRecord (now (b .entry)) d ⌝ }
 {
-    record_by(b, 3, d, 0)
+    record_by(b, OPENING, d, 0)
 }

@@ -2,19 +2,20 @@
 use mathlib.Core.List.{List, _++_}
 use Prim.Native.Nat.{ℕ}
 use Rattle.words.specs.Bytes.{recordBytes}
+use Rattle.records.specs.Layout.{keyLayout, lineLayout, openingLayout, shareLayout}
 
--- ---- records by their kind
+-- ---- the bytes of a record of each kind
 abbrev pub key : ℕ → ℕ → List ℕ
-key i y = recordBytes (record { w0 = 1; w1 = 0; w2 = i; w3 = y; w4 = 0; w5 = 0; w6 = 0; w7 = 0 })
+key i y = recordBytes (keyLayout i y)
 
 abbrev pub line : ℕ → ℕ → ℕ → ℕ → ℕ → ℕ → List ℕ
-line d i v Y r c = recordBytes (record { w0 = 2; w1 = d; w2 = i; w3 = v; w4 = Y; w5 = r; w6 = c; w7 = 0 })
+line d i v Y r c = recordBytes (lineLayout d i v Y r c)
 
 abbrev pub opening : ℕ → ℕ → List ℕ
-opening d s = recordBytes (record { w0 = 3; w1 = d; w2 = 0; w3 = s; w4 = 0; w5 = 0; w6 = 0; w7 = 0 })
+opening d u = recordBytes (openingLayout d u)
 
 abbrev pub share : ℕ → ℕ → ℕ → ℕ → ℕ → List ℕ
-share d i S c r = recordBytes (record { w0 = 4; w1 = d; w2 = i; w3 = S; w4 = c; w5 = r; w6 = 0; w7 = 0 })
+share d i Z c r = recordBytes (shareLayout d i Z c r)
 
 -- ---- what the boards are made of
 abbrev pub keys : List ℕ

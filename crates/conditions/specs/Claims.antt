@@ -3,35 +3,35 @@
 use mathlib.Core.Path.{_≡_}
 use mathlib.Core.Bool.{true}
 use mathlib.Core.List.{List, [], _∷_}
-use mathlib.Core.Logic.{_⊎_}
 use Prim.Native.Nat.{ℕ, _<_, _≤_}
 use lib.Dec.{eqb}
 use lib.ListN.{length}
 use Rattle.words.specs.Choice.{pick}
 use Rattle.words.specs.Checks.{value, Met}
 use Rattle.group.specs.Power.{pow}
-use Rattle.sharing.specs.Round.{groupIn}
+use Rattle.sharing.specs.Setting.{ProperSetting}
 use Rattle.sharing.specs.Carried.{Carries}
-use Rattle.sharing.specs.Figures.{small}
-use Rattle.posted.specs.Records.{recordAt}
+use Rattle.sharing.specs.Figures.{smallRound, small}
+use Rattle.records.specs.Layout.{memberOf, ZOf, recordAt}
 use Rattle.dealing.specs.Dealing.{vIn}
 use Rattle.board.specs.Search.{recordsIn}
 use Rattle.board.specs.Board.{boardChecks, linesOf}
-use Rattle.verdicts.specs.Verdict.{judges, isAccepted, commitmentsOf, isShareBy, sharesBy}
+use Rattle.verdicts.specs.Verdict.{judges, isAccepted, commitmentsOf, isShareBy}
 use Rattle.verdicts.specs.Draw.{drawOn}
-use Rattle.demand3.specs.Claims.{RightlyOpened, powerOfH, acceptedDealers, AllRecoverable, SameDealings}
+use Rattle.demand3.specs.Claims.{Revealed, powerOfH, acceptedDealers, AllRecoverable, SameDealings}
 use Rattle.conditions.specs.Boards.{openedBoard, silentBoard, forgedBoard, uncarriedLow, uncarriedHigh}
 
 -- the polynomials 3 + 5 times the member number for dealer 1, and 6 + 4 times it for the others
 abbrev pub polynomialOf : ℕ → List ℕ
 polynomialOf d = pick (eqb d 1) (3 ∷ 5 ∷ []) (6 ∷ 4 ∷ [])
 
--- the draw value of a board
+-- what the board judge answers for a board of group 1 with n = 4 and t = 2, whose setting is that of all these claims
 abbrev pub DrawIs : List ℕ → ℕ → Type 0
-DrawIs b v = drawOn judges small b ≡ value (record { 0 = v })
+DrawIs b v = drawOn judges smallRound b ≡ value (record { 0 = v })
 
 -- ---- the conditions are met: where the first dealer has opened and where he is silent, the draw is 2
 pub record ConditionsMet : Type 0 where
+  pub proper : ProperSetting small
   pub opened : AllRecoverable judges small openedBoard polynomialOf
   pub silent : AllRecoverable judges small silentBoard polynomialOf
   pub same : SameDealings judges small openedBoard silentBoard
@@ -40,28 +40,29 @@ pub record ConditionsMet : Type 0 where
 
 -- ---- all other conditions, on one board: verdicts are reached, t or more dealings are accepted, and each is rightly opened or has t
 -- or more accepted shares
-pub record Judged (b : List ℕ) : Type 0 where
+pub record OtherConditions (b : List ℕ) : Type 0 where
   pub reached : Met (boardChecks small b)
   pub count : 2 ≤ length (acceptedDealers judges small b)
-  pub enough : (d : ℕ) → 1 ≤ d → d ≤ 4 → isAccepted judges small b d ≡ true → RightlyOpened small b d ⊎ (2 ≤ length (sharesBy judges small b d))
+  pub revealed : (d : ℕ) → 1 ≤ d → d ≤ 4 → isAccepted judges small b d ≡ true → Revealed judges small b d
 
 -- two such boards with the same accepted dealings
 abbrev pub Compared : List ℕ → List ℕ → Type 0
-Compared b c = Judged b × Judged c × SameDealings judges small b c
+Compared b c = OtherConditions b × OtherConditions c × SameDealings judges small b c
 
 -- every accepted dealing is carried by a polynomial of degree below t
 abbrev pub AllCarried : List ℕ → Type 0
-AllCarried b = (d : ℕ) → 1 ≤ d → d ≤ 4 → isAccepted judges small b d ≡ true → (cs : List ℕ) × Carries small cs (commitmentsOf small b d)
+AllCarried b = (d : ℕ) → 1 ≤ d → d ≤ 4 → isAccepted judges small b d ≡ true → (f : List ℕ) × Carries small f (commitmentsOf small b d)
 
 -- every accepted share is true to its line: it is h to the exponent of the line's commitment
 abbrev pub AllTrue : List ℕ → Type 0
 AllTrue b = (d i : ℕ) → i < recordsIn b → isShareBy judges small b d i ≡ true
-    → (e : ℕ) × (vIn (linesOf b d) (recordAt b i .w2) ≡ pow (groupIn small .p) (groupIn small .g .0) e) × (recordAt b i .w3 ≡ powerOfH small e)
+    → (e : ℕ) × (vIn (linesOf b d) (memberOf (recordAt b i)) ≡ pow (small .group .p) (small .group .g .0) e)
+    × (ZOf (recordAt b i) ≡ powerOfH (small .group) e)
 
 -- ---- that polynomials carry the dealings cannot be dropped: none carries that of dealer 1, all shares are true, and the draws are 2 and 9
 abbrev pub CarriedNeeded : Type 0
 CarriedNeeded =
-    ((cs : List ℕ) → Carries small cs (commitmentsOf small uncarriedLow 1) → ⊥)
+    ((f : List ℕ) → Carries small f (commitmentsOf small uncarriedLow 1) → ⊥)
     × Compared uncarriedLow uncarriedHigh × AllTrue uncarriedLow × AllTrue uncarriedHigh × DrawIs uncarriedLow 2 × DrawIs uncarriedHigh 9
 
 -- ---- that accepted shares are true cannot be dropped: all dealings are carried, and the draws are 2 and 9

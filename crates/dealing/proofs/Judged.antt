@@ -1,158 +1,181 @@
 -- A judged dealing: accepted exactly if its figures are proper and every equation holds, and where one fails refused by its number.
 -- What is accepted has commitments for which the judge's own check polynomial passes.
-use mathlib.Core.Path.{_≡_, refl, _∙_}
+use mathlib.Core.Path.{_≡_, refl, sym, _∙_}
 use mathlib.Core.Bool.{Bool, true, _&&_}
-use mathlib.Core.List.{List}
+use mathlib.Core.List.{List, _++_}
 use mathlib.Core.Logic.{inl, inr}
-use Prim.Native.Nat.{ℕ}
+use Prim.Native.Nat.{ℕ, _≤_}
 use borrow.Author.Tests.{eqb-true, eq-eqb, ne-eqb}
-use lib.ListN.{length, take, drop}
 use lib.Dec.{eqb}
+use Rattle.words.specs.Lists.{all}
 use Rattle.words.specs.Checks.{Check, value, outcome, Met}
 use Rattle.words.proofs.Lists.{map-length, map-all, up-length}
-use Rattle.words.proofs.Tests.{and-true, true-and, all-true, true-all}
-use Rattle.words.proofs.Checks.{outcome-rest, value-exactly, refused-exactly}
+use Rattle.words.proofs.Tests.{and-true, true-and, equal-true, true-equal, true-all}
+use Rattle.words.proofs.Checks.{value-exactly, refused-exactly}
+use Rattle.words.proofs.Stages.{met-both, rest-outcome}
 use Rattle.group.specs.Element.{isElement, isExponent}
+use Rattle.group.specs.declared.Group.{Group}
 use Rattle.group.proofs.Elements.{exponent-true, true-exponent}
-use Rattle.sharing.specs.Round.{groupIn, members}
+use Rattle.sharing.specs.Setting.{members}
 use Rattle.sharing.specs.Carried.{Commitments}
-use Rattle.sharing.specs.declared.Round.{Round}
+use Rattle.sharing.specs.declared.Setting.{Setting}
 use Rattle.sharing.proofs.Degree.{product-passes}
 use Rattle.sharing.proofs.Theorems.{uncarried-one-value}
-use Rattle.posted.specs.Records.{isLineRecord, recordOf, isKey}
-use Rattle.posted.specs.Message.{checkPolynomial}
-use Rattle.dealing.specs.Dealing.{judgeDealingChecks, judgeDealingOutcome, vIn, YIn, rIn, cIn, vsIn, isLineFor, isLineOf, recomputed}
+use Rattle.records.specs.Layout.{isLineRecord, isRoundless, dealerOf, memberOf, recordOf}
+use Rattle.records.proofs.Members.{each-members, members-exactly, members-false}
+use Rattle.challenge.specs.Message.{checkPolynomial}
+use Rattle.challenge.proofs.Challenges.{check-polynomial}
+use Rattle.dealing.specs.Dealing.{vIn, YIn, rIn, cIn, vsIn, isLineFor, isLineOf, lineChecks, dealingFormChecks, FormedDealing, recomputed, rangeChecks, equationChecks, lineFigureChecks, judgeDealingChecks, judgeDealingIn}
 use Rattle.dealing.specs.Claims.{Line, PostedDealing, AcceptedDealing, DealingExactly, EquationRefused, DealingRefused, AcceptedPasses, AcceptedUncarried}
-use Rattle.posted.proofs.Members.{each-members, members-exactly, members-false, member-exactly}
-use Rattle.posted.proofs.Challenges.{check-polynomial}
+use Rattle.dealing.proofs.Settled.{met-keys, keys-met, met-formed, formed-met}
 
-module _ (R : Round) (d : ℕ) (ys b : List ℕ) where
-  -- ---- the tests of the line of member i
-  abbrev elementsAt : ℕ → Bool
-  elementsAt i = isElement (groupIn R) (vIn b i) && isElement (groupIn R) (YIn b i)
-
-  abbrev exponentsAt : ℕ → Bool
-  exponentsAt i = isExponent (groupIn R) (rIn b i) && isExponent (groupIn R) (cIn b i)
+module _ (S : Setting) (d : ℕ) (ys b : List ℕ) where
+  abbrev G : Group
+  G = S .group
 
   abbrev equalAt : ℕ → Bool
-  equalAt i = eqb (cIn b i) (recomputed R d ys b)
+  equalAt i = eqb (cIn b i) (recomputed S d ys (vIn b) (YIn b) (rIn b) (cIn b))
 
-  line : (i : ℕ) → isLineOf d b i ≡ true → elementsAt i ≡ true → exponentsAt i ≡ true → Line R d b i
+  -- ---- the form of the line of member i
+  line : (i : ℕ) → isLineOf d b i ≡ true → isElement G (vIn b i) ≡ true → isElement G (YIn b i) ≡ true
+      → isExponent G (rIn b i) ≡ true → isExponent G (cIn b i) ≡ true → Line S d b i
   unfolding isLineFor
-  line i e f g =
-      let k = and-true (isLineRecord (recordOf b i)) _ e in
-      let w = and-true (eqb (recordOf b i .w1) d) _ (k .1) in
-      let v = and-true (isElement (groupIn R) (vIn b i)) _ f in
-      let r = and-true (isExponent (groupIn R) (rIn b i)) _ g in
+  line i e v Y r c =
+      let l = recordOf b i in
+      let form = and-true (isLineRecord l && isRoundless l) _ e in
+      let kind = and-true (isLineRecord l) (isRoundless l) (form .0) in
+      let address = equal-true (dealerOf l) d (memberOf l) i (form .1) in
       record {
-        kind = k .0;
-        dealer = eqb-true (recordOf b i .w1) d (w .0);
-        member = eqb-true (recordOf b i .w2) i (w .1);
-        v-element = v .0;
-        Y-element = v .1;
-        r-low = exponent-true (groupIn R) (rIn b i) (r .0);
-        c-low = exponent-true (groupIn R) (cIn b i) (r .1);
+        kind = kind .0;
+        roundless = kind .1;
+        dealer = address .0;
+        member = address .1;
+        v-element = v;
+        Y-element = Y;
+        r-low = exponent-true G (rIn b i) r;
+        c-low = exponent-true G (cIn b i) c;
       }
 
-  line-form : (i : ℕ) → Line R d b i → isLineOf d b i ≡ true
+  line-form : (i : ℕ) → Line S d b i → isLineOf d b i ≡ true
   unfolding isLineFor
   line-form i L =
-      true-and (isLineRecord (recordOf b i)) _ (L .kind)
-      (true-and (eqb (recordOf b i .w1) d) _ (eq-eqb (recordOf b i .w1) d (L .dealer)) (eq-eqb (recordOf b i .w2) i (L .member)))
+      let l = recordOf b i in
+      true-and (isLineRecord l && isRoundless l) _ (true-and (isLineRecord l) (isRoundless l) (L .kind) (L .roundless))
+      (true-equal (dealerOf l) d (memberOf l) i (L .dealer) (L .member))
 
-  line-elements : (i : ℕ) → Line R d b i → elementsAt i ≡ true
-  line-elements i L = true-and (isElement (groupIn R) (vIn b i)) _ (L .v-element) (L .Y-element)
+  -- ---- the stages before the equations are met exactly by figures that are proper one by one
+  abbrev form : List Check
+  form = dealingFormChecks S d ys b
 
-  line-exponents : (i : ℕ) → Line R d b i → exponentsAt i ≡ true
-  line-exponents i L =
-      true-and (isExponent (groupIn R) (rIn b i)) _
-      (true-exponent (groupIn R) (rIn b i) (L .r-low)) (true-exponent (groupIn R) (cIn b i) (L .c-low))
+  abbrev ranges : List Check
+  ranges = rangeChecks S (vIn b) (YIn b) (rIn b) (cIn b)
 
-  -- ---- accepted
-  dealing-accepted : judgeDealingOutcome R d ys b ≡ value tt → AcceptedDealing R d ys b
-  unfolding judgeDealingOutcome
-  dealing-accepted e =
-      let m = value-exactly Unit (judgeDealingChecks R d ys b) tt .0 e in
-      let sizes = and-true (eqb (length ys) (R .n)) _ (m .1 .1 .1 .0) in
-      let form = members-exactly (isLineOf d b) (R .n) .0 (m .1 .1 .1 .1 .1 .0) in
-      let elements = members-exactly elementsAt (R .n) .0 (m .1 .1 .1 .1 .1 .1 .0) in
-      let exponents = members-exactly exponentsAt (R .n) .0 (m .1 .1 .1 .1 .1 .1 .1 .0) in
-      let equal = members-exactly equalAt (R .n) .0 (m .1 .1 .1 .1 .1 .1 .1 .1 .1 .0) in
+  abbrev equations : List Check
+  equations = equationChecks S d ys (vIn b) (YIn b) (rIn b) (cIn b)
+
+  met-posted : Met form → Met ranges → PostedDealing S d ys b
+  unfolding lineChecks rangeChecks
+  met-posted m k =
+      let F = met-formed S d ys b m in
+      let each : (f : ℕ → Bool) → all f (members (S .n)) ≡ true → (i : ℕ) → 1 ≤ i → i ≤ S .n → f i ≡ true = λ f. members-exactly f (S .n) .0 in
+      let elements = and-true (all (λ i. isElement G (vIn b i)) (members (S .n))) _ (k .0) in
+      let exponents = and-true (all (λ i. isExponent G (rIn b i)) (members (S .n))) _ (k .1 .0) in
       record {
-        posted = record {
-          round = (m .0, (m .1 .0, tt));
-          dealer = member-exactly (R .n) d .0 (m .1 .1 .0);
-          keys-size = eqb-true (length ys) (R .n) (sizes .0);
-          keys = all-true (isKey (groupIn R)) ys (m .1 .1 .1 .1 .0);
-          size = eqb-true (length b) _ (sizes .1);
-          lines = λ i h l. line i (form i h l) (elements i h l) (exponents i h l);
-        };
-        degree = eqb-true _ 1 (m .1 .1 .1 .1 .1 .1 .1 .1 .0);
-        challenge = λ i h l. eqb-true (cIn b i) (recomputed R d ys b) (equal i h l);
+        dealer = F .dealer;
+        keys-size = F .keys-size;
+        keys = met-keys G ys (F .keys);
+        size = F .size;
+        lines = λ i h l.
+            line i (each _ (F .lines .0) i h l) (each _ (elements .0) i h l) (each _ (elements .1) i h l) (each _ (exponents .0) i h l) (each _ (exponents .1) i h l);
       }
 
-  -- ---- figures that are proper one by one meet the first eight checks, so the last two decide
-  module _ (P : PostedDealing R d ys b) where
-    first-met : Met (take 8 (judgeDealingChecks R d ys b))
-    first-met =
-        let eight = member-exactly (R .n) d .1 (P .dealer) in
-        let three = true-and (eqb (length ys) (R .n)) _ (eq-eqb (length ys) (R .n) (P .keys-size)) (eq-eqb (length b) _ (P .size)) in
-        let keys = true-all (isKey (groupIn R)) ys (P .keys) in
-        let four = members-exactly (isLineOf d b) (R .n) .1 (λ i h l. line-form i (P .lines i h l)) in
-        let six = members-exactly elementsAt (R .n) .1 (λ i h l. line-elements i (P .lines i h l)) in
-        let seven = members-exactly exponentsAt (R .n) .1 (λ i h l. line-exponents i (P .lines i h l)) in
-        (P .round .0, (P .round .1 .0, (eight, (three, (keys, (four, (six, (seven, tt))))))))
+  module _ (P : PostedDealing S d ys b) where
+    form-met : Met form
+    unfolding lineChecks
+    form-met =
+        formed-met S d ys b
+        (record {
+          dealer = P .dealer;
+          keys-size = P .keys-size;
+          size = P .size;
+          keys = keys-met G ys (P .keys);
+          lines = (members-exactly (isLineOf d b) (S .n) .1 (λ i h l. line-form i (P .lines i h l)), tt);
+        })
 
-    abbrev last : List Check
-    last = drop 8 (judgeDealingChecks R d ys b)
+    ranges-met : Met ranges
+    unfolding rangeChecks
+    ranges-met =
+        let each : (f : ℕ → Bool) → ((i : ℕ) → Line S d b i → f i ≡ true) → all f (members (S .n)) ≡ true
+        = λ f s. members-exactly f (S .n) .1 (λ i h l. s i (P .lines i h l)) in
+        let six = true-and _ _ (each _ (λ i L. L .v-element)) (each _ (λ i L. L .Y-element)) in
+        let seven = true-and _ _ (each _ (λ i L. true-exponent G (rIn b i) (L .r-low))) (each _ (λ i L. true-exponent G (cIn b i) (L .c-low))) in
+        (six, (seven, tt))
 
-    by-last : judgeDealingOutcome R d ys b ≡ outcome last tt
-    unfolding judgeDealingOutcome
-    by-last = outcome-rest (take 8 (judgeDealingChecks R d ys b)) last tt first-met
+    -- so the equations decide
+    equations-decide : judgeDealingIn S d ys b ≡ outcome equations tt
+    unfolding judgeDealingIn
+    equations-decide = sym (rest-outcome ranges equations ranges-met tt ∙ rest-outcome form (ranges ++ equations) form-met tt)
 
-    equations-refused : EquationRefused R d ys b
+    equations-refused : EquationRefused S d ys b
+    unfolding equationChecks vsIn
     equations-refused =
         record {
-          nine = λ n. by-last ∙ refused-exactly Unit last tt 9 .1 (inl (ne-eqb _ 1 n, refl));
+          nine = λ n. equations-decide ∙ refused-exactly Unit equations tt 9 .1 (inl (ne-eqb _ 1 n, refl));
           ten = λ e i h l n.
-              by-last
-              ∙ refused-exactly Unit last tt 10 .1
-              (inr (eq-eqb _ 1 e, inl (members-false equalAt (R .n) i h l (ne-eqb (cIn b i) (recomputed R d ys b) n), refl)));
+              equations-decide
+              ∙ refused-exactly Unit equations tt 10 .1 (inr (eq-eqb _ 1 e, inl (members-false equalAt (S .n) i h l (ne-eqb (cIn b i) _ n), refl)));
         }
 
-  pub accepts-dealing : AcceptedDealing R d ys b → judgeDealingOutcome R d ys b ≡ value tt
-  accepts-dealing A =
-      by-last (A .posted)
-      ∙ value-exactly Unit (last (A .posted)) tt .1
-      (eq-eqb _ 1 (A .degree), (members-exactly equalAt (R .n) .1 (λ i h l. eq-eqb (cIn b i) (recomputed R d ys b) (A .challenge i h l)), tt))
+  -- ---- accepted
+  dealing-accepted : judgeDealingIn S d ys b ≡ value tt → AcceptedDealing S d ys b
+  unfolding judgeDealingIn equationChecks vsIn
+  dealing-accepted e =
+      let m = met-both form (ranges ++ equations) (value-exactly Unit (judgeDealingChecks S d ys b) tt .0 e) in
+      let k = met-both ranges equations (m .1) in
+      let equal = members-exactly equalAt (S .n) .0 (k .1 .1 .0) in
+      record {
+        posted = met-posted (m .0) (k .0);
+        degree = eqb-true _ 1 (k .1 .0);
+        challenge = λ i h l. eqb-true (cIn b i) _ (equal i h l);
+      }
 
-  posted-commitments : PostedDealing R d ys b → Commitments R (vsIn (R .n) b)
+  pub accepts-dealing : AcceptedDealing S d ys b → judgeDealingIn S d ys b ≡ value tt
+  unfolding equationChecks vsIn
+  accepts-dealing A =
+      equations-decide (A .posted)
+      ∙ value-exactly Unit equations tt .1
+      (eq-eqb _ 1 (A .degree), (members-exactly equalAt (S .n) .1 (λ i h l. eq-eqb (cIn b i) _ (A .challenge i h l)), tt))
+
+  posted-commitments : PostedDealing S d ys b → Commitments S (vsIn (S .n) b)
   unfolding vsIn
   posted-commitments P =
       record {
-        size = map-length (vIn b) (members (R .n)) ∙ up-length 1 (R .n);
+        size = map-length (vIn b) (members (S .n)) ∙ up-length 1 (S .n);
         elements =
-            true-all (isElement (groupIn R)) (vsIn (R .n) b)
-            (map-all (vIn b) (λ v. isElement (groupIn R) v ≡ true) (members (R .n))
-            (each-members (λ i. isElement (groupIn R) (vIn b i) ≡ true) (R .n) (λ i h l. P .lines i h l .v-element)));
+            true-all (isElement G) (vsIn (S .n) b)
+            (map-all (vIn b) (λ v. isElement G v ≡ true) (members (S .n))
+            (each-members (λ i. isElement G (vIn b i) ≡ true) (S .n) (λ i h l. P .lines i h l .v-element)));
       }
 
 pub dealing-exactly : DealingExactly
-dealing-exactly R d ys b = (dealing-accepted R d ys b, accepts-dealing R d ys b)
+dealing-exactly S d ys b = (dealing-accepted S d ys b, accepts-dealing S d ys b)
 
 pub dealing-refused : DealingRefused
 dealing-refused = equations-refused
 
+-- the figures' stage decides what is formed: what the judge answers on a board, whose form and keys are judged
+pub figures-decide : (S : Setting) (d : ℕ) (ys b : List ℕ) → FormedDealing S d ys b → outcome (lineFigureChecks S d ys b) tt ≡ judgeDealingIn S d ys b
+unfolding judgeDealingIn
+figures-decide S d ys b F = rest-outcome (dealingFormChecks S d ys b) (lineFigureChecks S d ys b) (formed-met S d ys b F) tt
+
 -- ---- what demand 3 has of it
 pub accepted-passes : AcceptedPasses
-accepted-passes R d ys b e =
-    let A = dealing-accepted R d ys b e in
-    let m = A .posted .round in
-    let C = posted-commitments R d ys b (A .posted) in
-    let ds : List ℕ = checkPolynomial R d (vIn b) (YIn b) in
-    (m, C, product-passes R (vsIn (R .n) b) ds m C (check-polynomial R m d (vIn b) (YIn b)) (A .degree))
+accepted-passes S P d ys b e =
+    let A = dealing-accepted S d ys b e in
+    let C = posted-commitments S d ys b (A .posted) in
+    (C, product-passes S (vsIn (S .n) b) (checkPolynomial S d (vIn b) (YIn b)) C (check-polynomial S P d (vIn b) (YIn b)) (A .degree))
 
 pub accepted-uncarried : AcceptedUncarried
-accepted-uncarried R d ys b e none cs p a =
-    let s = accepted-passes R d ys b e in
-    uncarried-one-value R (s .0) (vsIn (R .n) b) (s .1) none .one-value cs (checkPolynomial R d (vIn b) (YIn b)) p (s .2) a
+accepted-uncarried S P d ys b e none ds p a =
+    let s = accepted-passes S P d ys b e in
+    uncarried-one-value S P (vsIn (S .n) b) (s .0) none .one-value ds (checkPolynomial S d (vIn b) (YIn b)) p (s .1) a

@@ -1,5 +1,7 @@
 -- Proofs of what specs/Claims.antt states, and the laws that they and the functions' proofs share.
 pub mod Entries
-pub mod Sizes
-pub mod Figures
+pub mod Settled
 pub mod Judged
+pub mod Lines
+pub mod Arrays
+pub mod Written

@@ -1,4 +1,5 @@
--- What is claimed of judged dealings: demand 2 for what a dealer posts, and what it gives demand 3.
+-- What is claimed of dealings, judged and written: demand 2 for what a dealer posts, and what it gives demand 3. Each claim is over a
+-- setting; DealingByRound reads them off for a round.
 use mathlib.Core.Path.{_≡_}
 use mathlib.Core.Bool.{true}
 use mathlib.Core.List.{List}
@@ -8,72 +9,114 @@ use lib.ListN.{length, getD}
 use Rattle.words.specs.Lists.{All}
 use Rattle.words.specs.Checks.{value, refused, Met}
 use Rattle.group.specs.Element.{isElement}
-use Rattle.sharing.specs.Round.{groupIn, roundChecks}
+use Rattle.sharing.specs.Setting.{ProperSetting, settingIn, roundChecks}
 use Rattle.sharing.specs.Answer.{degreeProduct}
 use Rattle.sharing.specs.Carried.{Carries, Commitments, Passes, place, AgreeOff}
 use Rattle.sharing.specs.declared.Round.{Round}
-use Rattle.posted.specs.Records.{isLineRecord, recordOf, isKey}
-use Rattle.posted.specs.Message.{checkPolynomial}
-use Rattle.dealing.specs.Dealing.{judgeDealingOutcome, vIn, YIn, rIn, cIn, vsIn, recomputed}
+use Rattle.sharing.specs.declared.Setting.{Setting}
+use Rattle.records.specs.Layout.{isLineRecord, isRoundless, dealerOf, memberOf, recordOf}
+use Rattle.records.specs.Keys.{isKey}
+use Rattle.challenge.specs.Message.{checkPolynomial}
+use Rattle.dealing.specs.Dealing.{judgeDealingIn, judgeDealingOutcome, vIn, YIn, rIn, cIn, vsIn, recomputed, writtenDealing, writeDealingIn, writeDealingOutcome, lentDealingIn, lentDealing}
 
 -- ---- a posted dealing
 -- the line of member i: its form and its figures
-pub record Line (R : Round) (d : ℕ) (b : List ℕ) (i : ℕ) : Type 0 where
+pub record Line (S : Setting) (d : ℕ) (b : List ℕ) (i : ℕ) : Type 0 where
   pub kind : isLineRecord (recordOf b i) ≡ true
-  pub dealer : recordOf b i .w1 ≡ d
-  pub member : recordOf b i .w2 ≡ i
-  pub v-element : isElement (groupIn R) (vIn b i) ≡ true
-  pub Y-element : isElement (groupIn R) (YIn b i) ≡ true
-  pub r-low : rIn b i < groupIn R .q
-  pub c-low : cIn b i < groupIn R .q
+  pub roundless : isRoundless (recordOf b i) ≡ true
+  pub dealer : dealerOf (recordOf b i) ≡ d
+  pub member : memberOf (recordOf b i) ≡ i
+  pub v-element : isElement (S .group) (vIn b i) ≡ true
+  pub Y-element : isElement (S .group) (YIn b i) ≡ true
+  pub r-low : rIn b i < S .group .q
+  pub c-low : cIn b i < S .group .q
 
 -- all that is asked of its figures one by one
-pub record PostedDealing (R : Round) (d : ℕ) (ys b : List ℕ) : Type 0 where
-  pub round : Met (roundChecks R)
-  pub dealer : (1 ≤ d) × (d ≤ R .n)
-  pub keys-size : length ys ≡ R .n
-  pub keys : All (λ y. isKey (groupIn R) y ≡ true) ys
-  pub size : length b ≡ 32 * R .n
-  pub lines : (i : ℕ) → 1 ≤ i → i ≤ R .n → Line R d b i
+pub record PostedDealing (S : Setting) (d : ℕ) (ys b : List ℕ) : Type 0 where
+  pub dealer : (1 ≤ d) × (d ≤ S .n)
+  pub keys-size : length ys ≡ S .n
+  pub keys : All (λ y. isKey (S .group) y ≡ true) ys
+  pub size : length b ≡ 32 * S .n
+  pub lines : (i : ℕ) → 1 ≤ i → i ≤ S .n → Line S d b i
 
 -- the equation of the degree check, over the judge's own check polynomial
-abbrev pub DegreeEquation : Round → ℕ → List ℕ → Type 0
-DegreeEquation R d b = degreeProduct (groupIn R) (R .n) (vsIn (R .n) b) (checkPolynomial R d (vIn b) (YIn b)) ≡ 1
+abbrev pub DegreeEquation : Setting → ℕ → List ℕ → Type 0
+DegreeEquation S d b = degreeProduct S (vsIn (S .n) b) (checkPolynomial S d (vIn b) (YIn b)) ≡ 1
 
 -- the equation of member i's line: its challenge is the one that the announcements of all lines give
-abbrev pub LineEquation : Round → ℕ → List ℕ → List ℕ → ℕ → Type 0
-LineEquation R d ys b i = cIn b i ≡ recomputed R d ys b
+abbrev pub LineEquation : Setting → ℕ → List ℕ → List ℕ → ℕ → Type 0
+LineEquation S d ys b i = cIn b i ≡ recomputed S d ys (vIn b) (YIn b) (rIn b) (cIn b)
 
-pub record AcceptedDealing (R : Round) (d : ℕ) (ys b : List ℕ) : Type 0 where
-  pub posted : PostedDealing R d ys b
-  pub degree : DegreeEquation R d b
-  pub challenge : (i : ℕ) → 1 ≤ i → i ≤ R .n → LineEquation R d ys b i
+pub record AcceptedDealing (S : Setting) (d : ℕ) (ys b : List ℕ) : Type 0 where
+  pub posted : PostedDealing S d ys b
+  pub degree : DegreeEquation S d b
+  pub challenge : (i : ℕ) → 1 ≤ i → i ≤ S .n → LineEquation S d ys b i
 
 -- a dealing is accepted exactly if every equation between posted figures holds
 abbrev pub DealingExactly : Type 0
-DealingExactly = (R : Round) (d : ℕ) (ys b : List ℕ) → (judgeDealingOutcome R d ys b ≡ value tt) ↔ AcceptedDealing R d ys b
+DealingExactly = (S : Setting) (d : ℕ) (ys b : List ℕ) → (judgeDealingIn S d ys b ≡ value tt) ↔ AcceptedDealing S d ys b
 
 -- where an equation fails, the number says which: 9 the degree check's, and else 10 a line's
-pub record EquationRefused (R : Round) (d : ℕ) (ys b : List ℕ) : Type 0 where
-  pub nine : (DegreeEquation R d b → ⊥) → judgeDealingOutcome R d ys b ≡ refused 9
-  pub ten : DegreeEquation R d b → (i : ℕ) → 1 ≤ i → i ≤ R .n → (LineEquation R d ys b i → ⊥) → judgeDealingOutcome R d ys b ≡ refused 10
+pub record EquationRefused (S : Setting) (d : ℕ) (ys b : List ℕ) : Type 0 where
+  pub nine : (DegreeEquation S d b → ⊥) → judgeDealingIn S d ys b ≡ refused 9
+  pub ten : DegreeEquation S d b → (i : ℕ) → 1 ≤ i → i ≤ S .n → (LineEquation S d ys b i → ⊥) → judgeDealingIn S d ys b ≡ refused 10
 
 abbrev pub DealingRefused : Type 0
-DealingRefused = (R : Round) (d : ℕ) (ys b : List ℕ) → PostedDealing R d ys b → EquationRefused R d ys b
+DealingRefused = (S : Setting) (d : ℕ) (ys b : List ℕ) → PostedDealing S d ys b → EquationRefused S d ys b
 
 -- ---- from posted figures to demand 3
 -- an accepted dealing has n elements as commitments, for which the judge's own check polynomial passes
 abbrev pub AcceptedPasses : Type 0
 AcceptedPasses =
-    (R : Round) (d : ℕ) (ys b : List ℕ) → judgeDealingOutcome R d ys b ≡ value tt
-    → Met (roundChecks R) × Commitments R (vsIn (R .n) b) × Passes R (vsIn (R .n) b) (checkPolynomial R d (vIn b) (YIn b))
+    (S : Setting) → ProperSetting S → (d : ℕ) (ys b : List ℕ) → judgeDealingIn S d ys b ≡ value tt
+    → Commitments S (vsIn (S .n) b) × Passes S (vsIn (S .n) b) (checkPolynomial S d (vIn b) (YIn b))
 
 -- where no polynomial carries an accepted dealing, the judge's own check polynomial has, at the place that the commitments fix,
 -- the one value that passes: what a dealer must hit
 abbrev pub AcceptedUncarried : Type 0
 AcceptedUncarried =
-    (R : Round) (d : ℕ) (ys b : List ℕ) → judgeDealingOutcome R d ys b ≡ value tt
-    → ((cs : List ℕ) → Carries R cs (vsIn (R .n) b) → ⊥)
-    → (cs : List ℕ) → Passes R (vsIn (R .n) b) cs
-    → AgreeOff (place R (vsIn (R .n) b)) cs (checkPolynomial R d (vIn b) (YIn b))
-    → getD cs (place R (vsIn (R .n) b)) 0 ≡ getD (checkPolynomial R d (vIn b) (YIn b)) (place R (vsIn (R .n) b)) 0
+    (S : Setting) → ProperSetting S → (d : ℕ) (ys b : List ℕ) → judgeDealingIn S d ys b ≡ value tt
+    → ((f : List ℕ) → Carries S f (vsIn (S .n) b) → ⊥)
+    → (ds : List ℕ) → Passes S (vsIn (S .n) b) ds
+    → AgreeOff (place S (vsIn (S .n) b)) ds (checkPolynomial S d (vIn b) (YIn b))
+    → getD ds (place S (vsIn (S .n) b)) 0 ≡ getD (checkPolynomial S d (vIn b) (YIn b)) (place S (vsIn (S .n) b)) 0
+
+-- ---- a written dealing
+-- what is written from proper figures is accepted with the same keys
+abbrev pub DealingComplete : Type 0
+DealingComplete =
+    (S : Setting) → ProperSetting S → (d : ℕ) (ys f ws : List ℕ) → writeDealingIn S d ys f ws (32 * S .n) ≡ value tt
+    → judgeDealingIn S d ys (writtenDealing S d ys f ws) ≡ value tt
+
+-- and its polynomial carries it
+abbrev pub WrittenCarried : Type 0
+WrittenCarried =
+    (S : Setting) → ProperSetting S → (d : ℕ) (ys f ws : List ℕ) → writeDealingIn S d ys f ws (32 * S .n) ≡ value tt
+    → Carries S f (vsIn (S .n) (writtenDealing S d ys f ws))
+
+-- the lent bytes are accepted where nothing is refused
+abbrev pub LentDealing : Type 0
+LentDealing =
+    (S : Setting) → ProperSetting S → (d : ℕ) (ys f ws out : List ℕ) → writeDealingIn S d ys f ws (length out) ≡ value tt
+    → judgeDealingIn S d ys (lentDealingIn S d ys f ws out) ≡ value tt
+
+-- and stay as they were where a number is refused
+abbrev pub LentDealingKept : Type 0
+LentDealingKept =
+    (S : Setting) (d : ℕ) (ys f ws out : List ℕ) (k : ℕ) → writeDealingIn S d ys f ws (length out) ≡ refused k
+    → lentDealingIn S d ys f ws out ≡ out
+
+-- ---- over a round
+-- nothing is accepted or written where 1 or 2 refuses the round; else judge and writer do what they do in its setting, which is proper
+pub record DealingOverRound (R : Round) : Type 0 where
+  pub judged-met : (d : ℕ) (ys b : List ℕ) → judgeDealingOutcome R d ys b ≡ value tt → Met (roundChecks R)
+  pub written-met : (d : ℕ) (ys f ws : List ℕ) (room : ℕ) → writeDealingOutcome R d ys f ws room ≡ value tt → Met (roundChecks R)
+  pub kept : (d : ℕ) (ys f ws out : List ℕ) (k : ℕ) → writeDealingOutcome R d ys f ws (length out) ≡ refused k → lentDealing R d ys f ws out ≡ out
+  pub proper : Met (roundChecks R) → ProperSetting (settingIn R)
+  pub judged-in : Met (roundChecks R) → (d : ℕ) (ys b : List ℕ) → judgeDealingOutcome R d ys b ≡ judgeDealingIn (settingIn R) d ys b
+  pub written-in : Met (roundChecks R) → (d : ℕ) (ys f ws : List ℕ) (room : ℕ)
+      → writeDealingOutcome R d ys f ws room ≡ writeDealingIn (settingIn R) d ys f ws room
+  pub lent-in : Met (roundChecks R) → (d : ℕ) (ys f ws out : List ℕ) → lentDealing R d ys f ws out ≡ lentDealingIn (settingIn R) d ys f ws out
+
+abbrev pub DealingByRound : Type 0
+DealingByRound = (R : Round) → DealingOverRound R

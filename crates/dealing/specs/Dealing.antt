@@ -1,106 +1,160 @@
--- A dealing as it is written, and as it is judged.
+-- A dealing as it is written, and as it is judged: definitions over a setting, and over a round, whose own checks come first.
+use mathlib.Core.Path.{_≡_}
 use mathlib.Core.Bool.{Bool, _&&_}
 use mathlib.Core.List.{List, [], _∷_, _++_}
-use Prim.Native.Nat.{ℕ, _*_}
+use Prim.Native.Nat.{ℕ, _*_, _≤_}
 use lib.ListN.{length}
 use lib.Dec.{eqb}
 use Rattle.words.specs.Lists.{map, all}
-use Rattle.words.specs.Checks.{Check, _unless_, Outcome, outcome}
+use Rattle.words.specs.Checks.{Check, _unless_, Outcome, outcome, Met, ifMet}
 use Rattle.words.specs.declared.Record.{Record}
 use Rattle.field.specs.Polynomial.{valueAt}
 use Rattle.group.specs.Power.{pow}
 use Rattle.group.specs.Element.{isElement, isExponent}
 use Rattle.group.specs.declared.Group.{Group}
-use Rattle.sharing.specs.Round.{groupIn, roundChecks, isMember, members}
+use Rattle.sharing.specs.Setting.{judged, judgedElse, isMember, members}
 use Rattle.sharing.specs.Answer.{degreeProduct}
 use Rattle.sharing.specs.declared.Round.{Round}
-use Rattle.posted.specs.Records.{isLineRecord, entry, recordOf, recordsBytes, isKey}
-use Rattle.posted.specs.Message.{challengeOf, dealingMessage, checkPolynomial}
+use Rattle.sharing.specs.declared.Setting.{Setting}
+use Rattle.records.specs.Layout.{lineLayout, isLineRecord, isRoundless, dealerOf, memberOf, vOf, YOf, rOf, cOf, entry, recordOf, recordsBytes}
+use Rattle.records.specs.Keys.{keyChecks}
+use Rattle.challenge.specs.Message.{challengeOf, dealingMessage, checkPolynomial}
 use Rattle.equality.specs.Equality.{announced, response}
 
--- ---- written: from the keys ys, the polynomial cs and the nonces ws
-unfoldable pub dealtV : Group → List ℕ → ℕ → ℕ
-dealtV G cs i = pow (G .p) (G .g .0) (valueAt (G .q) cs i)
+-- the dealer d is a member: the first stage of writing and of judging
+unfoldable pub addressChecks : Setting → ℕ → List Check
+addressChecks S d = 8 unless isMember (S .n) d ∷ []
 
-unfoldable pub dealtY : Group → List ℕ → List ℕ → ℕ → ℕ
-dealtY G ys cs i = pow (G .p) (entry ys i) (valueAt (G .q) cs i)
+-- ---- written: from the keys ys, the polynomial f and the nonces ws
+unfoldable pub writtenV : Group → List ℕ → ℕ → ℕ
+writtenV G f i = pow (G .p) (G .g .0) (valueAt (G .q) f i)
+
+unfoldable pub writtenY : Group → List ℕ → List ℕ → ℕ → ℕ
+writtenY G ys f i = pow (G .p) (entry ys i) (valueAt (G .q) f i)
 
 -- the challenge over the announcements g^w and y^w
-unfoldable pub dealtC : Round → ℕ → List ℕ → List ℕ → List ℕ → ℕ
-dealtC R d ys cs ws =
-    challengeOf R
-    (dealingMessage R d (dealtV (groupIn R) cs) (dealtY (groupIn R) ys cs)
-    (λ i. pow (groupIn R .p) (groupIn R .g .0) (entry ws i)) (λ i. pow (groupIn R .p) (entry ys i) (entry ws i)))
+unfoldable pub writtenC : Setting → ℕ → List ℕ → List ℕ → List ℕ → ℕ
+writtenC S d ys f ws =
+    challengeOf S
+    (dealingMessage S d (writtenV (S .group) f) (writtenY (S .group) ys f)
+    (λ i. pow (S .group .p) (S .group .g .0) (entry ws i)) (λ i. pow (S .group .p) (entry ys i) (entry ws i)))
 
-unfoldable pub dealtR : Group → List ℕ → List ℕ → ℕ → ℕ → ℕ
-dealtR G cs ws c i = response G (entry ws i) c (valueAt (G .q) cs i)
+unfoldable pub writtenR : Group → List ℕ → List ℕ → ℕ → ℕ → ℕ
+writtenR G f ws c i = response G (entry ws i) c (valueAt (G .q) f i)
 
 -- the line of member i under the challenge c
-unfoldable pub dealtLine : Group → ℕ → List ℕ → List ℕ → List ℕ → ℕ → ℕ → Record
-dealtLine G d ys cs ws c i =
-    record { w0 = 2; w1 = d; w2 = i; w3 = dealtV G cs i; w4 = dealtY G ys cs i; w5 = dealtR G cs ws c i; w6 = c; w7 = 0 }
+unfoldable pub writtenLine : Group → ℕ → List ℕ → List ℕ → List ℕ → ℕ → ℕ → Record
+writtenLine G d ys f ws c i = lineLayout d i (writtenV G f i) (writtenY G ys f i) (writtenR G f ws c i) c
 
-unfoldable pub writtenDealing : Round → ℕ → List ℕ → List ℕ → List ℕ → List ℕ
-writtenDealing R d ys cs ws = recordsBytes (dealtLine (groupIn R) d ys cs ws (dealtC R d ys cs ws)) (members (R .n))
+unfoldable pub writtenDealing : Setting → ℕ → List ℕ → List ℕ → List ℕ → List ℕ
+writtenDealing S d ys f ws = recordsBytes (writtenLine (S .group) d ys f ws (writtenC S d ys f ws)) (members (S .n))
+
+-- n keys, t coefficients, n nonces, and room for n lines
+unfoldable pub writeSizeChecks : Setting → List ℕ → List ℕ → List ℕ → ℕ → List Check
+writeSizeChecks S ys f ws room =
+    3 unless (eqb (length ys) (S .n) && (eqb (length f) (S .t) && (eqb (length ws) (S .n) && eqb room (32 * S .n)))) ∷ []
+
+-- coefficients and nonces below q
+unfoldable pub secretChecks : Group → List ℕ → List ℕ → List Check
+secretChecks G f ws = 7 unless (all (isExponent G) f && all (isExponent G) ws) ∷ []
 
 -- with room for so many bytes
-abbrev pub writeDealingChecks : Round → ℕ → List ℕ → List ℕ → List ℕ → ℕ → List Check
-writeDealingChecks R d ys cs ws room =
-    roundChecks R ++
-    (8 unless isMember (R .n) d
-    ∷ 3 unless (eqb (length ys) (R .n) && (eqb (length cs) (R .t) && (eqb (length ws) (R .n) && eqb room (32 * R .n))))
-    ∷ 6 unless all (isKey (groupIn R)) ys
-    ∷ 7 unless (all (isExponent (groupIn R)) cs && all (isExponent (groupIn R)) ws)
-    ∷ [])
+abbrev pub writeDealingChecks : Setting → ℕ → List ℕ → List ℕ → List ℕ → ℕ → List Check
+writeDealingChecks S d ys f ws room =
+    (addressChecks S d ++ writeSizeChecks S ys f ws room) ++ (keyChecks (S .group) ys ++ secretChecks (S .group) f ws)
+
+unfoldable pub writeDealingIn : Setting → ℕ → List ℕ → List ℕ → List ℕ → ℕ → Outcome (Unit {0})
+writeDealingIn S d ys f ws room = outcome (writeDealingChecks S d ys f ws room) tt
 
 unfoldable pub writeDealingOutcome : Round → ℕ → List ℕ → List ℕ → List ℕ → ℕ → Outcome (Unit {0})
-writeDealingOutcome R d ys cs ws room = outcome (writeDealingChecks R d ys cs ws room) tt
+writeDealingOutcome R d ys f ws room = judged R (λ S. writeDealingChecks S d ys f ws room) (λ S. tt)
+
+-- the lent bytes afterwards
+unfoldable pub lentDealingIn : Setting → ℕ → List ℕ → List ℕ → List ℕ → List ℕ → List ℕ
+lentDealingIn S d ys f ws out = ifMet (writeDealingChecks S d ys f ws (length out)) (writtenDealing S d ys f ws) out
+
+unfoldable pub lentDealing : Round → ℕ → List ℕ → List ℕ → List ℕ → List ℕ → List ℕ
+lentDealing R d ys f ws out = judgedElse R (λ S. writeDealingChecks S d ys f ws (length out)) (λ S. writtenDealing S d ys f ws) out
 
 -- ---- judged: the figures of member i in the lines b
 unfoldable pub vIn : List ℕ → ℕ → ℕ
-vIn b i = recordOf b i .w3
+vIn b i = vOf (recordOf b i)
 
 unfoldable pub YIn : List ℕ → ℕ → ℕ
-YIn b i = recordOf b i .w4
+YIn b i = YOf (recordOf b i)
 
 unfoldable pub rIn : List ℕ → ℕ → ℕ
-rIn b i = recordOf b i .w5
+rIn b i = rOf (recordOf b i)
 
 unfoldable pub cIn : List ℕ → ℕ → ℕ
-cIn b i = recordOf b i .w6
+cIn b i = cOf (recordOf b i)
 
 -- the commitments
 unfoldable pub vsIn : ℕ → List ℕ → List ℕ
 vsIn n b = map (vIn b) (members n)
 
+-- n keys and n lines
+unfoldable pub judgeSizeChecks : Setting → List ℕ → List ℕ → List Check
+judgeSizeChecks S ys b = 3 unless (eqb (length ys) (S .n) && eqb (length b) (32 * S .n)) ∷ []
+
 -- a record is a line of the dealer d for member i
 unfoldable pub isLineFor : ℕ → ℕ → Record → Bool
-isLineFor d i r = isLineRecord r && (eqb (r .w1) d && eqb (r .w2) i)
+isLineFor d i r = (isLineRecord r && isRoundless r) && (eqb (dealerOf r) d && eqb (memberOf r) i)
 
 -- the record of member i is a line of the dealer d for him
 abbrev pub isLineOf : ℕ → List ℕ → ℕ → Bool
 isLineOf d b i = isLineFor d i (recordOf b i)
 
--- the challenge that the posted figures give
-unfoldable pub recomputed : Round → ℕ → List ℕ → List ℕ → ℕ
-recomputed R d ys b =
-    challengeOf R
-    (dealingMessage R d (vIn b) (YIn b)
-    (λ i. announced (groupIn R) (groupIn R .g .0) (vIn b i) (cIn b i) (rIn b i))
-    (λ i. announced (groupIn R) (entry ys i) (YIn b i) (cIn b i) (rIn b i)))
+unfoldable pub lineChecks : Setting → ℕ → List ℕ → List Check
+lineChecks S d b = 4 unless all (isLineOf d b) (members (S .n)) ∷ []
 
-abbrev pub judgeDealingChecks : Round → ℕ → List ℕ → List ℕ → List Check
-judgeDealingChecks R d ys b =
-    roundChecks R ++
-    (8 unless isMember (R .n) d
-    ∷ 3 unless (eqb (length ys) (R .n) && eqb (length b) (32 * R .n))
-    ∷ 6 unless all (isKey (groupIn R)) ys
-    ∷ 4 unless all (isLineOf d b) (members (R .n))
-    ∷ 6 unless all (λ i. isElement (groupIn R) (vIn b i) && isElement (groupIn R) (YIn b i)) (members (R .n))
-    ∷ 7 unless all (λ i. isExponent (groupIn R) (rIn b i) && isExponent (groupIn R) (cIn b i)) (members (R .n))
-    ∷ 9 unless eqb (degreeProduct (groupIn R) (R .n) (vsIn (R .n) b) (checkPolynomial R d (vIn b) (YIn b))) 1
-    ∷ 10 unless all (λ i. eqb (cIn b i) (recomputed R d ys b)) (members (R .n))
-    ∷ [])
+-- the stages before the figures
+unfoldable pub dealingFormChecks : Setting → ℕ → List ℕ → List ℕ → List Check
+dealingFormChecks S d ys b = (addressChecks S d ++ judgeSizeChecks S ys b) ++ (keyChecks (S .group) ys ++ lineChecks S d b)
+
+-- what they leave
+pub record FormedDealing (S : Setting) (d : ℕ) (ys b : List ℕ) : Type 0 where
+  pub dealer : (1 ≤ d) × (d ≤ S .n)
+  pub keys-size : length ys ≡ S .n
+  pub size : length b ≡ 32 * S .n
+  pub keys : Met (keyChecks (S .group) ys)
+  pub lines : Met (lineChecks S d b)
+
+-- ---- judged: the figures v, Y, r and c of the members
+-- the challenge that they give
+unfoldable pub recomputed : Setting → ℕ → List ℕ → (ℕ → ℕ) → (ℕ → ℕ) → (ℕ → ℕ) → (ℕ → ℕ) → ℕ
+recomputed S d ys v Y r c =
+    challengeOf S
+    (dealingMessage S d v Y
+    (λ i. announced (S .group) (S .group .g .0) (v i) (c i) (r i)) (λ i. announced (S .group) (entry ys i) (Y i) (c i) (r i)))
+
+-- v and Y are elements, r and c below q
+unfoldable pub rangeChecks : Setting → (ℕ → ℕ) → (ℕ → ℕ) → (ℕ → ℕ) → (ℕ → ℕ) → List Check
+rangeChecks S v Y r c =
+    let is = members (S .n) in
+    6 unless (all (λ i. isElement (S .group) (v i)) is && all (λ i. isElement (S .group) (Y i)) is)
+    ∷ 7 unless (all (λ i. isExponent (S .group) (r i)) is && all (λ i. isExponent (S .group) (c i)) is)
+    ∷ []
+
+-- the judge's own check polynomial passes, and every challenge is the recomputed one
+unfoldable pub equationChecks : Setting → ℕ → List ℕ → (ℕ → ℕ) → (ℕ → ℕ) → (ℕ → ℕ) → (ℕ → ℕ) → List Check
+equationChecks S d ys v Y r c =
+    9 unless eqb (degreeProduct S (map v (members (S .n))) (checkPolynomial S d v Y)) 1
+    ∷ 10 unless all (λ i. eqb (c i) (recomputed S d ys v Y r c)) (members (S .n))
+    ∷ []
+
+abbrev pub figureChecks : Setting → ℕ → List ℕ → (ℕ → ℕ) → (ℕ → ℕ) → (ℕ → ℕ) → (ℕ → ℕ) → List Check
+figureChecks S d ys v Y r c = rangeChecks S v Y r c ++ equationChecks S d ys v Y r c
+
+-- those of the lines b
+abbrev pub lineFigureChecks : Setting → ℕ → List ℕ → List ℕ → List Check
+lineFigureChecks S d ys b = figureChecks S d ys (vIn b) (YIn b) (rIn b) (cIn b)
+
+abbrev pub judgeDealingChecks : Setting → ℕ → List ℕ → List ℕ → List Check
+judgeDealingChecks S d ys b = dealingFormChecks S d ys b ++ lineFigureChecks S d ys b
+
+unfoldable pub judgeDealingIn : Setting → ℕ → List ℕ → List ℕ → Outcome (Unit {0})
+judgeDealingIn S d ys b = outcome (judgeDealingChecks S d ys b) tt
 
 unfoldable pub judgeDealingOutcome : Round → ℕ → List ℕ → List ℕ → Outcome (Unit {0})
-judgeDealingOutcome R d ys b = outcome (judgeDealingChecks R d ys b) tt
+judgeDealingOutcome R d ys b = judged R (λ S. judgeDealingChecks S d ys b) (λ S. tt)

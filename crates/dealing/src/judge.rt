@@ -1,35 +1,36 @@
 // The judging of a dealing: the form of its lines, their figures, and the equations between them.
 ghost use mathlib.Core.Path.{_≡_};
-ghost use mathlib.Core.Bool.{_&&_};
 ghost use Prim.Native.Nat.{_*_, _≤_};
 ghost use lib.Dec.{eqb};
-ghost use lib.ListN.{length, take, drop};
-ghost use Rattle.words.specs.Lists.{all};
-ghost use Rattle.words.specs.Checks.{refusal, Met};
+ghost use lib.ListN.{length};
+ghost use Rattle.words.specs.Lists.{map, all, filled};
+ghost use Rattle.words.specs.Checks.{refusal, outcome};
 ghost use Rattle.words.specs.Bytes.{recordIn};
-ghost use Rattle.group.specs.Element.{isElement, isExponent};
-ghost use Rattle.sharing.specs.Round.{groupIn, roundChecks, members};
+ghost use Rattle.sharing.specs.Setting.{ProperSetting, members};
 ghost use Rattle.sharing.specs.Answer.{checkOutcomeOf, degreeProduct};
-ghost use Rattle.posted.specs.Message.{checkPolynomial};
-ghost use Rattle.dealing.specs.Dealing.{vIn, YIn, rIn, cIn, vsIn, isLineFor, isLineOf, recomputed, judgeDealingChecks, judgeDealingOutcome};
+ghost use Rattle.records.specs.Layout.{entry};
+ghost use Rattle.challenge.specs.Message.{checkPolynomial};
+ghost use Rattle.dealing.specs.Dealing.{vIn, YIn, rIn, cIn, isLineFor, isLineOf, dealingFormChecks, FormedDealing};
+ghost use Rattle.dealing.specs.Dealing.{recomputed, rangeChecks, figureChecks, lineFigureChecks, judgeDealingIn, judgeDealingOutcome};
+use crate::Columns;
+use challenge::check_polynomial;
+use challenge::dealing_challenge;
 use equality::announced;
 use group::Element;
 use group::Exponent;
-use group::Group;
-use group::GroupAnswer;
 use group::all_elements;
 use group::all_exponents;
-use posted::all_keys;
-use posted::check_polynomial;
-use posted::column;
-use posted::dealing_challenge;
-use posted::is_line_record;
-use posted::record_at;
+use records::is_line_record;
+use records::is_roundless;
+use records::keys_refusal;
 use sharing::CheckAnswer;
 use sharing::Round;
-use sharing::degree_product;
+use sharing::Setting;
+use sharing::SettingAnswer;
+use sharing::degree_passes;
 use sharing::is_member;
-use sharing::round_group;
+use sharing::passed_if;
+use sharing::setting_of;
 use words::read_record;
 
 // Whether a record is a line of the dealer d for member i. Internal: callers ensure that the bytes are one record.
@@ -39,6 +40,9 @@ fn is_line_for(d: u32, i: u32, line: &[u8]) -> bool
 {
     let r = read_record(line);
     if !is_line_record(r) {
+        return false;
+    }
+    if !is_roundless(r) {
         return false;
     }
     if r.w1 != d {
@@ -64,92 +68,12 @@ fn all_lines(d: u32, lines: &[u8], n: u32) -> bool
     true
 }
 
-// Whether v and Y of every line are elements. Internal: callers ensure that the bytes are n records, at most 31.
-fn elements_in(gr: Group, lines: &[u8], n: usize) -> bool
-    requires { ⌜ (n ≤ 31) × (length (now lines) ≡ 32 * n) ⌝ }
-    ensures { λ r. ⌜ r ≡ all (λ i. isElement gr (vIn (now (lines .entry)) i) && isElement gr (YIn (now (lines .entry)) i)) (members n) ⌝ }
+// The first number refused before the figures, of 8, 3, 6 for a key, and 4; 0 where none is.
+fn form_refusal(s: Setting, d: u32, ys: &[u32], lines: &[u8]) -> u32
+    ensures { λ r. ⌜ r ≡ refusal (dealingFormChecks s d (now (ys .entry)) (now (lines .entry))) ⌝ }
 {
-    let vs = column(lines, n, 3);
-    if !all_elements(gr, &vs[..n]) {
-        return false;
-    }
-    let es = column(lines, n, 4);
-    all_elements(gr, &es[..n])
-}
-
-// Whether r and c of every line are below q. Internal: callers ensure that the bytes are n records, at most 31.
-fn exponents_in(gr: Group, lines: &[u8], n: usize) -> bool
-    requires { ⌜ (n ≤ 31) × (length (now lines) ≡ 32 * n) ⌝ }
-    ensures { λ r. ⌜ r ≡ all (λ i. isExponent gr (rIn (now (lines .entry)) i) && isExponent gr (cIn (now (lines .entry)) i)) (members n) ⌝ }
-{
-    let rs = column(lines, n, 5);
-    if !all_exponents(gr, &rs[..n]) {
-        return false;
-    }
-    let cs = column(lines, n, 6);
-    all_exponents(gr, &cs[..n])
-}
-
-// Whether c is the challenge of every line. Internal: callers ensure that the bytes are n records.
-fn all_challenges(c: Exponent, lines: &[u8], n: usize) -> bool
-    requires { ⌜ length (now lines) ≡ 32 * n ⌝ }
-    ensures { λ r. ⌜ r ≡ all (λ i. eqb (cIn (now (lines .entry)) i) (c .0)) (members n) ⌝ }
-{
-    let mut i = 0;
-    while i < n {
-        let own = record_at(lines, i);
-        if own.w6 != c.0 {
-            return false;
-        }
-        i += 1;
-    }
-    true
-}
-
-// Whether the judge's own check polynomial passes the commitments.
-// Internal: callers ensure a proper round and its group, a dealer at most n, and n records.
-fn degree_passes(gr: Group, rd: Round, d: u32, lines: &[u8]) -> bool
-    requires { ⌜ (Met (roundChecks rd)) × (gr ≡ groupIn rd) × (d ≤ rd .n) × (length (now lines) ≡ 32 * rd .n) ⌝ }
-    ensures { λ r. ⌜ r ≡ eqb (degreeProduct gr (rd .n) (vsIn (rd .n) (now (lines .entry))) (checkPolynomial rd d (vIn (now (lines .entry))) (YIn (now (lines .entry))))) 1 ⌝ }
-{
-    let n = rd.n as usize;
-    let vs = column(lines, n, 3);
-    let es = column(lines, n, 4);
-    let cs = check_polynomial(gr, rd, d, &vs, &es);
-    let m = (rd.n - rd.t) as usize;
-    degree_product(gr, rd.n, &vs[..n], &cs[..m]).0 == 1
-}
-
-// The challenge that the posted figures give.
-// Internal: callers ensure a proper round and its group, a dealer at most n, n keys and n records.
-fn recomputed(gr: Group, rd: Round, d: u32, ys: &[u32], lines: &[u8]) -> Exponent
-    requires { ⌜ (Met (roundChecks rd)) × (gr ≡ groupIn rd) × (d ≤ rd .n) × (length (now ys) ≡ rd .n) × (length (now lines) ≡ 32 * rd .n) ⌝ }
-    ensures { λ r. ⌜ r .0 ≡ recomputed rd d (now (ys .entry)) (now (lines .entry)) ⌝ }
-{
-    let n = rd.n as usize;
-    let vs = column(lines, n, 3);
-    let es = column(lines, n, 4);
-    let mut a1s = [0u32; 31];
-    let mut a2s = [0u32; 31];
-    let mut i = 0;
-    while i < n {
-        let line = record_at(lines, i);
-        let r = Exponent(line.w5);
-        let c = Exponent(line.w6);
-        a1s[i] = announced(gr, gr.g, Element(line.w3), c, r).0;
-        a2s[i] = announced(gr, Element(ys[i]), Element(line.w4), c, r).0;
-        i += 1;
-    }
-    dealing_challenge(gr, rd, d, &vs, &es, &a1s, &a2s)
-}
-
-// The first number refused of 8, 3, 6 for a key, and 4; 0 where none is. Internal: callers hand over the round's group.
-fn form_refusal(gr: Group, rd: Round, d: u32, ys: &[u32], lines: &[u8]) -> u32
-    requires { ⌜ gr ≡ groupIn rd ⌝ }
-    ensures { λ r. ⌜ r ≡ refusal (take 4 (drop 2 (judgeDealingChecks rd d (now (ys .entry)) (now (lines .entry))))) ⌝ }
-{
-    let n = rd.n as usize;
-    if !is_member(rd.n, d) {
+    let n = s.n as usize;
+    if !is_member(s.n, d) {
         return 8;
     }
     if ys.len() != n {
@@ -158,56 +82,172 @@ fn form_refusal(gr: Group, rd: Round, d: u32, ys: &[u32], lines: &[u8]) -> u32
     if lines.len() != 32 * n {
         return 3;
     }
-    if !all_keys(gr, ys) {
-        return 6;
+    let k = keys_refusal(s.group, ys);
+    if k != 0 {
+        return k;
     }
-    if !all_lines(d, lines, rd.n) {
+    if !all_lines(d, lines, s.n) {
         return 4;
     }
     0
 }
 
-// The first number refused of 6 for a v or Y, 7, 9 and 10; 0 where none is.
-// Internal: callers ensure that no earlier check refuses, and hand over the round's group.
-fn figure_refusal(gr: Group, rd: Round, d: u32, ys: &[u32], lines: &[u8]) -> u32
-    requires { ⌜ (gr ≡ groupIn rd) × (Met (take 6 (judgeDealingChecks rd d (now ys) (now lines)))) ⌝ }
-    ensures { λ r. ⌜ r ≡ refusal (drop 6 (judgeDealingChecks rd d (now (ys .entry)) (now (lines .entry)))) ⌝ }
+// The figures of n lines. Internal: callers ensure that the bytes are n records, at most 31.
+pub fn read_lines(lines: &[u8], n: usize) -> Columns
+    requires { ⌜ (n ≤ 31) × (length (now lines) ≡ 32 * n) ⌝ }
+    ensures { λ t. ⌜ t ≡ record {
+      vs = filled 31 (map (vIn (now (lines .entry))) (members n));
+      encrypted = filled 31 (map (YIn (now (lines .entry))) (members n));
+      rs = filled 31 (map (rIn (now (lines .entry))) (members n));
+      cs = filled 31 (map (cIn (now (lines .entry))) (members n));
+    } ⌝ }
 {
-    let n = rd.n as usize;
-    if !elements_in(gr, lines, n) {
+    let mut vs = [0u32; 31];
+    let mut encrypted = [0u32; 31];
+    let mut rs = [0u32; 31];
+    let mut cs = [0u32; 31];
+    let mut i = 0;
+    while i < n {
+        let from = 32 * i;
+        let to = from + 32;
+        let line = read_record(&lines[from..to]);
+        vs[i] = line.w3;
+        encrypted[i] = line.w4;
+        rs[i] = line.w5;
+        cs[i] = line.w6;
+        i += 1;
+    }
+    Columns {
+        vs: vs,
+        encrypted: encrypted,
+        rs: rs,
+        cs: cs,
+    }
+}
+
+// Whether the judge's own check polynomial passes the commitments vs.
+// Internal: callers ensure a proper setting and a dealer at most n.
+fn own_check_passes(s: Setting, d: u32, vs: [u32; 31], encrypted: [u32; 31]) -> bool
+    requires { ⌜ (ProperSetting s) × (d ≤ s .n) ⌝ }
+    ensures { λ r. ⌜ r ≡ eqb (degreeProduct s (map (entry vs) (members (s .n))) (checkPolynomial s d (entry vs) (entry encrypted))) 1 ⌝ }
+{
+    let n = s.n as usize;
+    let m = (s.n - s.t) as usize;
+    let ds = check_polynomial(s, d, &vs, &encrypted);
+    degree_passes(s, &vs[..n], &ds[..m])
+}
+
+// The challenge that the figures give. Internal: callers ensure a proper setting, a dealer at most n, and n keys.
+fn recomputed(s: Setting, d: u32, ys: &[u32], t: Columns) -> Exponent
+    requires { ⌜ (ProperSetting s) × (d ≤ s .n) × (length (now ys) ≡ s .n) ⌝ }
+    ensures { λ r. ⌜ r .0 ≡ recomputed s d (now (ys .entry)) (entry (t .vs)) (entry (t .encrypted)) (entry (t .rs)) (entry (t .cs)) ⌝ }
+{
+    let mut a1s = [0u32; 31];
+    let mut a2s = [0u32; 31];
+    let mut i = 0;
+    while i < ys.len() {
+        let r = Exponent(t.rs[i]);
+        let c = Exponent(t.cs[i]);
+        a1s[i] = announced(s.group, s.group.g, Element(t.vs[i]), c, r).0;
+        a2s[i] = announced(s.group, Element(ys[i]), Element(t.encrypted[i]), c, r).0;
+        i += 1;
+    }
+    let vs = t.vs;
+    let encrypted = t.encrypted;
+    dealing_challenge(s, d, &vs, &encrypted, &a1s, &a2s)
+}
+
+// Whether c is the challenge of each of n members, in cs. Internal: callers ensure that n is at most 31.
+fn all_equal(c: Exponent, cs: [u32; 31], n: usize) -> bool
+    requires { ⌜ n ≤ 31 ⌝ }
+    ensures { λ r. ⌜ r ≡ all (λ i. eqb (entry cs i) (c .0)) (members n) ⌝ }
+{
+    let mut i = 0;
+    while i < n {
+        if cs[i] != c.0 {
+            return false;
+        }
+        i += 1;
+    }
+    true
+}
+
+// The first number refused of 6 for a v or Y, and 7; 0 where none is. Internal: callers ensure a proper setting.
+fn range_refusal(
+    s: Setting,
+    vs: [u32; 31],
+    encrypted: [u32; 31],
+    rs: [u32; 31],
+    cs: [u32; 31],
+) -> u32
+    requires { ⌜ ProperSetting s ⌝ }
+    ensures { λ r. ⌜ r ≡ refusal (rangeChecks s (entry vs) (entry encrypted) (entry rs) (entry cs)) ⌝ }
+{
+    let n = s.n as usize;
+    if !all_elements(s.group, &vs[..n]) {
         return 6;
     }
-    if !exponents_in(gr, lines, n) {
+    if !all_elements(s.group, &encrypted[..n]) {
+        return 6;
+    }
+    if !all_exponents(s.group, &rs[..n]) {
         return 7;
     }
-    if !degree_passes(gr, rd, d, lines) {
-        return 9;
-    }
-    let c = recomputed(gr, rd, d, ys, lines);
-    if !all_challenges(c, lines, n) {
-        return 10;
+    if !all_exponents(s.group, &cs[..n]) {
+        return 7;
     }
     0
 }
 
-// Judges the lines of the dealer d, with the keys ys. Refused: 1 and 2 as round_group; 8 d is no member; 3 not n keys or not 32n
+// Judges figures: 6 for a v or Y, 7, 9 and 10. Internal: callers ensure a proper setting, a dealer at most n, and n keys.
+fn judge_figures(s: Setting, d: u32, ys: &[u32], t: Columns) -> CheckAnswer
+    requires { ⌜ (ProperSetting s) × (d ≤ s .n) × (length (now ys) ≡ s .n) ⌝ }
+    ensures { λ r. ⌜ checkOutcomeOf r ≡ outcome (figureChecks s d (now (ys .entry)) (entry (t .vs)) (entry (t .encrypted)) (entry (t .rs)) (entry (t .cs))) tt ⌝ }
+{
+    let vs = t.vs;
+    let encrypted = t.encrypted;
+    let rs = t.rs;
+    let cs = t.cs;
+    let k = range_refusal(s, vs, encrypted, rs, cs);
+    if k != 0 {
+        return CheckAnswer::Refused(k);
+    }
+    if !own_check_passes(s, d, vs, encrypted) {
+        return CheckAnswer::Refused(9);
+    }
+    let c = recomputed(s, d, ys, t);
+    passed_if(all_equal(c, cs, s.n as usize), 10)
+}
+
+// Judges the figures of the lines of the dealer d: 6 for a v or Y, 7, 9 and 10.
+// Internal: callers ensure a proper setting, and that no check before those of the figures refuses.
+pub fn judge_lines(s: Setting, d: u32, ys: &[u32], lines: &[u8]) -> CheckAnswer
+    requires { ⌜ (ProperSetting s) × (FormedDealing s d (now ys) (now lines)) ⌝ }
+    ensures { λ r. ⌜ checkOutcomeOf r ≡ outcome (lineFigureChecks s d (now (ys .entry)) (now (lines .entry))) tt ⌝ }
+{
+    judge_figures(s, d, ys, read_lines(lines, s.n as usize))
+}
+
+// Judges a dealing in a setting: 8, 3, 6, 4, 6, 7, 9 and 10. Internal: callers ensure that the setting is proper.
+pub fn judge_dealing_in(s: Setting, d: u32, ys: &[u32], lines: &[u8]) -> CheckAnswer
+    requires { ⌜ ProperSetting s ⌝ }
+    ensures { λ r. ⌜ checkOutcomeOf r ≡ judgeDealingIn s d (now (ys .entry)) (now (lines .entry)) ⌝ }
+{
+    let k = form_refusal(s, d, ys, lines);
+    if k != 0 {
+        return CheckAnswer::Refused(k);
+    }
+    judge_lines(s, d, ys, lines)
+}
+
+// Judges the lines of the dealer d, with the keys ys. Refused: 1 and 2 as setting_of; 8 d is no member; 3 not n keys or not 32n
 // bytes; 6 a key that is no element or is 1; 4 a record that is no line of d for the member of its place; 6 a v or Y that is no
 // element; 7 an r or c not below q; 9 the judge's own check polynomial does not pass; 10 a challenge is not the recomputed one.
 pub fn judge_dealing(rd: Round, d: u32, ys: &[u32], lines: &[u8]) -> CheckAnswer
     ensures { λ r. ⌜ checkOutcomeOf r ≡ judgeDealingOutcome rd d (now (ys .entry)) (now (lines .entry)) ⌝ }
 {
-    match round_group(rd) {
-        GroupAnswer::Refused(k) => CheckAnswer::Refused(k),
-        GroupAnswer::Value(gr) => {
-            let form = form_refusal(gr, rd, d, ys, lines);
-            if form != 0 {
-                return CheckAnswer::Refused(form);
-            }
-            let figure = figure_refusal(gr, rd, d, ys, lines);
-            if figure != 0 {
-                return CheckAnswer::Refused(figure);
-            }
-            CheckAnswer::Passed
-        }
+    match setting_of(rd) {
+        SettingAnswer::Refused(k) => CheckAnswer::Refused(k),
+        SettingAnswer::Value(s) => judge_dealing_in(s, d, ys, lines),
     }
 }

@@ -1,4 +1,18 @@
-// Dealings as they are judged.
+// A dealing: the judge and the writer.
 mod judge;
+mod writer;
 
 pub use judge::judge_dealing;
+pub use judge::judge_dealing_in;
+pub use judge::judge_lines;
+pub use judge::read_lines;
+pub use writer::write_dealing;
+pub use writer::write_dealing_in;
+
+// The figures of a dealing's lines: v, Y, r and c of each member, and 0 behind them.
+pub struct Columns {
+    pub vs: [u32; 31],
+    pub encrypted: [u32; 31],
+    pub rs: [u32; 31],
+    pub cs: [u32; 31],
+}

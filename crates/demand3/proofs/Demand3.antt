@@ -1,7 +1,8 @@
 -- The theorems of demand 3, one for each of its sentences.
-use Rattle.sharing.proofs.Theorems.{always-carried, uncarried-one-value, carried-passes, opening-exactly, quorum-recovers}
+use Rattle.sharing.proofs.Theorems.{always-carried, uncarried-one-value, carried-passes, carried-exactly, opening-exactly, quorum-recovers, round-by-setting}
+use Rattle.verdicts.specs.Verdict.{judges}
 use Rattle.demand3.specs.Demand3.{Demand3}
-use Rattle.demand3.proofs.TwoBoards.{same-draw-here}
+use Rattle.demand3.proofs.TwoBoards.{same-draw, draw-by-round}
 
 pub demand3 : Demand3
 demand3 =
@@ -9,7 +10,10 @@ demand3 =
       always-carried = always-carried;
       one-value = uncarried-one-value;
       carried-passes = carried-passes;
+      carried-exactly = carried-exactly;
       opening-exactly = opening-exactly;
       quorum-recovers = quorum-recovers;
-      same-draw = same-draw-here;
+      same-draw = same-draw judges;
+      round-by-setting = round-by-setting;
+      draw-by-round = draw-by-round judges;
     }

@@ -1,76 +1,77 @@
 -- How a board ends. Count, product and stuck dealings are folds over the verdicts; by the cases of a verdict each is one over the
--- accepted dealers. The rest is which of the two last checks is the first unmet one.
+-- accepted dealers. The rest is which of the two last checks is the first unmet one: an end has three cases.
 use mathlib.Core.Path.{_≡_, refl, sym, ap, _∙_}
 use mathlib.Core.Bool.{Bool, true, false, not}
 use mathlib.Core.List.{List, [], _∷_}
-use mathlib.Core.Logic.{_↔_, inl, inr, ⊎-elim}
+use mathlib.Core.Logic.{_↔_, ⊎-elim}
 use Prim.Native.Nat.{ℕ, zero, suc, _+_, _<_, _≤_}
 use native.Mathlib.Nat.{eq-or-lt-of-le}
 use native.Mathlib.Omega.{arith}
-use borrow.Author.Tests.{eq-eqb, ne-eqb, not-true, not-false, leb-true, leb-false, le-leb, lt-leb}
+use borrow.Author.Tests.{leb-true, leb-false}
 use lib.ListN.{length}
-use lib.Dec.{eqb}
+use lib.Dec.{leb}
 use Rattle.words.specs.Choice.{pick}
 use Rattle.words.specs.Lists.{map, upFrom}
-use Rattle.words.specs.Checks.{Check, value, refused, refusal, outcome, Met}
+use Rattle.words.specs.Checks.{value, refused, outcome, Met}
 use Rattle.words.proofs.Tests.{false-true, pick-true, pick-false}
-use Rattle.words.proofs.Checks.{value-met, value-exactly, refused-exactly, none-exactly, first-exactly, first-numbered}
+use Rattle.words.proofs.Stages.{rest-outcome, front-outcome}
 use Rattle.group.specs.declared.Element.{Element}
-use Rattle.sharing.specs.Round.{groupIn, members}
-use Rattle.sharing.specs.declared.Round.{Round}
+use Rattle.sharing.specs.Setting.{ProperSetting, members}
+use Rattle.sharing.specs.declared.Setting.{Setting}
 use Rattle.board.specs.Search.{filter}
 use Rattle.board.specs.Board.{boardChecks}
+use Rattle.board.proofs.Order.{Reached, reached}
 use Rattle.verdicts.specs.Verdict.{Judges, isAccepted, secretBy, verdictOn, verdictsOn}
-use Rattle.verdicts.specs.Draw.{countOne, countAccepted, isStuck, anyStuck, secretValue, timesSecret, secretsProduct, drawChecks, drawOf, drawOn}
-use Rattle.demand3.specs.Claims.{acceptedDealers, productOf, SomeStuck, RefusedBefore, EndRules}
+use Rattle.verdicts.specs.Draw.{countOne, countAccepted, isStuck, anyStuck, secretValue, timesSecret, secretsProduct, drawChecks, boardProduct, drawOf, drawIn}
 use Rattle.verdicts.specs.declared.Secret.the-variants.{Opened, Recovered, Stuck}
 use Rattle.verdicts.specs.declared.Verdict.{Verdict}
 use Rattle.verdicts.specs.declared.Verdict.the-variants.{None, Refused, Accepted}
-use Rattle.board.proofs.Numbers.{board-numbered}
-use Rattle.board.proofs.Order.{Formed, reached}
-use Rattle.demand3.proofs.VerdictCases.{Case, nothing, partial, rejected, passed, case-of}
+use Rattle.demand3.specs.Claims.{acceptedDealers, productOf, SomeStuck, RefusedBefore, EndRules}
+use Rattle.demand3.proofs.VerdictCases.{Case, no-lines, some-lines, refused-lines, accepted-lines, case-of}
 
 -- ---- refused before the verdicts
 pub refused-before : RefusedBefore
-unfolding drawOn
-refused-before J R b k u =
-    let h = first-numbered (boardChecks R b) k (board-numbered R b) u in
-    let e = first-exactly (boardChecks R b) k h .1 u in
-    pick-false (eqb (refusal (boardChecks R b)) 0) _ _ (ne-eqb (refusal (boardChecks R b)) 0 (λ z. omega arith)) ∙ ap refused e
+unfolding drawIn
+refused-before J S b k u = sym (front-outcome (boardChecks S b) (drawChecks (S .t) (verdictsOn J S b)) k u (boardProduct J S b))
+
+-- ---- reached verdicts decide
+pub reached-draw : (J : Judges) (S : Setting) (b : List ℕ) → Met (boardChecks S b) → drawIn J S b ≡ drawOf (S .group .p) (S .t) (verdictsOn J S b)
+unfolding drawIn drawOf
+reached-draw J S b m = sym (rest-outcome (boardChecks S b) (drawChecks (S .t) (verdictsOn J S b)) m (boardProduct J S b))
 
 -- ---- folds over the verdicts
-module _ (J : Judges) {R : Round} {b : List ℕ} (F : Formed R b) where
+module _ (J : Judges) {S : Setting} (P : ProperSetting S) {b : List ℕ} (F : Reached S b) where
   abbrev verdictsFor : List ℕ → List Verdict
-  verdictsFor ds = map (verdictOn J R b) ds
+  verdictsFor ds = map (verdictOn J S b) ds
 
   abbrev acceptedOf : List ℕ → List ℕ
-  acceptedOf ds = filter (isAccepted J R b) ds
+  acceptedOf ds = filter (isAccepted J S b) ds
 
   abbrev secretAt : ℕ → ℕ
-  secretAt d = secretValue (secretBy J R b d)
+  secretAt d = secretValue (secretBy J S b d)
 
   counted : (ds : List ℕ) → countAccepted (verdictsFor ds) ≡ length (acceptedOf ds)
   counted [] = refl
-  counted (d ∷ ds) = by (case-of J F d) (counted ds)
+  counted (d ∷ ds) = by-case (case-of J P F d) (counted ds)
     where
-      by : Case J R b d → countAccepted (verdictsFor ds) ≡ length (acceptedOf ds)
-          → countOne (verdictOn J R b d) + countAccepted (verdictsFor ds) ≡ length (pick (isAccepted J R b d) (d ∷ acceptedOf ds) (acceptedOf ds))
-      by (nothing z a v) e = rw (v, a) (omega arith)
-      by (partial n l a v) e = rw (v, a) (omega arith)
-      by (rejected l k g a v) e = rw (v, a) (omega arith)
-      by (passed l g a v) e = rw (v, a) (omega arith)
+      by-case : Case J S b d → countAccepted (verdictsFor ds) ≡ length (acceptedOf ds)
+          → countOne (verdictOn J S b d) + countAccepted (verdictsFor ds) ≡ length (pick (isAccepted J S b d) (d ∷ acceptedOf ds) (acceptedOf ds))
+      by-case (no-lines z a v) e = rw (v, a) (omega arith)
+      by-case (some-lines n l a v) e = rw (v, a) (omega arith)
+      by-case (refused-lines l k g a v) e = rw (v, a) (omega arith)
+      by-case (accepted-lines l g a v) e = rw (v, a) (omega arith)
 
   multiplied : (p : ℕ) (ds : List ℕ) → secretsProduct p (verdictsFor ds) ≡ productOf p (map secretAt (acceptedOf ds))
   multiplied p [] = refl
-  multiplied p (d ∷ ds) = by (case-of J F d) (multiplied p ds)
+  multiplied p (d ∷ ds) = by-case (case-of J P F d) (multiplied p ds)
     where
-      by : Case J R b d → secretsProduct p (verdictsFor ds) ≡ productOf p (map secretAt (acceptedOf ds))
-          → timesSecret p (verdictOn J R b d) (secretsProduct p (verdictsFor ds))
-          ≡ productOf p (map secretAt (pick (isAccepted J R b d) (d ∷ acceptedOf ds) (acceptedOf ds)))
-      by (nothing z a v) e = rw (v, a) e
-      by (partial n l a v) e = rw (v, a) e
-      by (rejected l k g a v) e = rw (v, a) e
-      by (passed l g a v) e = rw (v, a, e)
+      by-case : Case J S b d → secretsProduct p (verdictsFor ds) ≡ productOf p (map secretAt (acceptedOf ds))
+          → timesSecret p (verdictOn J S b d) (secretsProduct p (verdictsFor ds))
+          ≡ productOf p (map secretAt (pick (isAccepted J S b d) (d ∷ acceptedOf ds) (acceptedOf ds)))
+      by-case (no-lines z a v) e = rw (v, a) e
+      by-case (some-lines n l a v) e = rw (v, a) e
+      by-case (refused-lines l k g a v) e = rw (v, a) e
+      by-case (accepted-lines l g a v) e = rw (v, a, e)
 
 -- ---- a stuck verdict among many
 stuck-is : (v : Verdict) → isStuck v ≡ true → v ≡ Accepted Stuck
@@ -83,105 +84,87 @@ stuck-is (Accepted Stuck) e = refl
 module _ (w : ℕ → Verdict) where
   any-one : (i m : ℕ) → anyStuck (map w (upFrom i m)) ≡ true → (d : ℕ) × (i ≤ d) × (d < i + m) × (w d ≡ Accepted Stuck)
   any-one i zero e = absurd (false-true e)
-  any-one i (suc m) e = by (isStuck (w i)) refl e (any-one (suc i) m)
+  any-one i (suc m) e = by-first (isStuck (w i)) refl e (any-one (suc i) m)
     where
-      by : (x : Bool) → isStuck (w i) ≡ x → pick x true (anyStuck (map w (upFrom (suc i) m))) ≡ true
+      by-first : (x : Bool) → isStuck (w i) ≡ x → pick x true (anyStuck (map w (upFrom (suc i) m))) ≡ true
           → (anyStuck (map w (upFrom (suc i) m)) ≡ true → (d : ℕ) × (suc i ≤ d) × (d < suc i + m) × (w d ≡ Accepted Stuck))
           → (d : ℕ) × (i ≤ d) × (d < i + suc m) × (w d ≡ Accepted Stuck)
-      by true s e r = (i, omega arith, omega arith, stuck-is (w i) s)
-      by false s e r = let o = r e in (o .0, omega (arith, o .1), omega (arith, o .2), o .3)
+      by-first true s e r = (i, omega arith, omega arith, stuck-is (w i) s)
+      by-first false s e r = let o = r e in (o .0, omega (arith, o .1), omega (arith, o .2), o .3)
 
   one-any : (i m d : ℕ) → i ≤ d → d < i + m → w d ≡ Accepted Stuck → anyStuck (map w (upFrom i m)) ≡ true
   one-any i zero d l u e = absurd (omega arith)
-  one-any i (suc m) d l u e = by (isStuck (w i)) refl (λ h. one-any (suc i) m d h (omega arith) e)
+  one-any i (suc m) d l u e = by-first (isStuck (w i)) refl (λ h. one-any (suc i) m d h (omega arith) e)
     where
-      by : (x : Bool) → isStuck (w i) ≡ x → (suc i ≤ d → anyStuck (map w (upFrom (suc i) m)) ≡ true)
+      by-first : (x : Bool) → isStuck (w i) ≡ x → (suc i ≤ d → anyStuck (map w (upFrom (suc i) m)) ≡ true)
           → pick x true (anyStuck (map w (upFrom (suc i) m))) ≡ true
-      by true s r = refl
-      by false s r = ⊎-elim (λ h. absurd (false-true (sym s ∙ ap (λ (j : ℕ). isStuck (w j)) h ∙ ap isStuck e))) r (eq-or-lt-of-le l)
+      by-first true s r = refl
+      by-first false s r = ⊎-elim (λ h. absurd (false-true (sym s ∙ ap (λ (j : ℕ). isStuck (w j)) h ∙ ap isStuck e))) r (eq-or-lt-of-le l)
 
--- ---- the end
-module _ (J : Judges) (R : Round) (b : List ℕ) (c : Met (boardChecks R b)) where
-  F : Formed R b
-  F = reached R b c .formed
+-- ---- the three ends
+-- the product of the accepted dealings' secrets
+abbrev secretsGiven : Judges → Setting → List ℕ → ℕ
+secretsGiven J S b = productOf (S .group .p) (map (λ d. secretValue (secretBy J S b d)) (acceptedDealers J S b))
 
-  abbrev many : ℕ
-  many = length (acceptedDealers J R b)
+data End (J : Judges) (S : Setting) (b : List ℕ) : Type 0 where
+  fourteen : length (acceptedDealers J S b) < S .t → drawIn J S b ≡ refused 14 → End J S b
+  thirteen : S .t ≤ length (acceptedDealers J S b) → SomeStuck J S b → drawIn J S b ≡ refused 13 → End J S b
+  drawn : S .t ≤ length (acceptedDealers J S b) → (SomeStuck J S b → ⊥) → drawIn J S b ≡ value (record { 0 = secretsGiven J S b }) → End J S b
 
-  count-is : countAccepted (verdictsOn J R b) ≡ many
-  count-is = counted J F (members (R .n))
+module _ (J : Judges) (S : Setting) (P : ProperSetting S) (b : List ℕ) (m : Met (boardChecks S b)) where
+  F : Reached S b
+  F = reached S b m
 
-  some-stuck : (anyStuck (verdictsOn J R b) ≡ true) ↔ SomeStuck J R b
+  abbrev verdicts : List Verdict
+  verdicts = verdictsOn J S b
+
+  count-is : countAccepted verdicts ≡ length (acceptedDealers J S b)
+  count-is = counted J P F (members (S .n))
+
+  some-stuck : (anyStuck verdicts ≡ true) ↔ SomeStuck J S b
   some-stuck = (
-    λ e. let s = any-one (verdictOn J R b) 1 (R .n) e in (s .0, s .1, omega (arith, s .2), s .3),
-    λ s. one-any (verdictOn J R b) 1 (R .n) (s .0) (s .1) (omega (arith, s .2)) (s .3),
+    λ e. let s = any-one (verdictOn J S b) 1 (S .n) e in (s .0, s .1, omega (arith, s .2), s .3),
+    λ s. one-any (verdictOn J S b) 1 (S .n) (s .0) (s .1) (omega (arith, s .2)) (s .3),
   )
 
-  abbrev lastChecks : List Check
-  lastChecks = drawChecks (R .t) (verdictsOn J R b)
+  draw-is : drawIn J S b ≡ outcome (drawChecks (S .t) verdicts) (record { 0 = secretsGiven J S b })
+  unfolding drawOf
+  draw-is =
+      reached-draw J S b m
+      ∙ (λ j. outcome (drawChecks (S .t) verdicts) (record { 0 = multiplied J P F (S .group .p) (members (S .n)) j }))
 
-  abbrev drawValue : Element
-  drawValue = record { 0 = secretsProduct (groupIn R .p) (verdictsOn J R b) }
-
-  draw-is : drawOn J R b ≡ outcome lastChecks drawValue
-  unfolding drawOn drawOf
-  draw-is = pick-true (eqb (refusal (boardChecks R b)) 0) _ _ (eq-eqb _ 0 (none-exactly (boardChecks R b) (board-numbered R b) .1 c))
-
-  few-draw : (drawOn J R b ≡ refused 14) ↔ (many < R .t)
-  few-draw =
-      let r = refused-exactly Element lastChecks drawValue 14 in
-      let n = count-is in (
-        λ e. ⊎-elim
-            (λ u. omega (arith, leb-false (R .t) (countAccepted (verdictsOn J R b)) (u .0)))
-            (λ u. ⊎-elim (λ v. absurd (omega (arith, v .1))) (λ v. absurd (v .1)) (u .1))
-            (r .0 (sym draw-is ∙ e)),
-        λ h. draw-is ∙ r .1 (inl (lt-leb (R .t) (countAccepted (verdictsOn J R b)) (omega arith), refl)),
-      )
-
-  stuck-draw : (drawOn J R b ≡ refused 13) ↔ ((R .t ≤ many) × SomeStuck J R b)
-  stuck-draw =
-      let r = refused-exactly Element lastChecks drawValue 13 in
-      let n = count-is in (
-        λ e. ⊎-elim
-            (λ u. absurd (omega (arith, u .1)))
-            (λ u. ⊎-elim
-            (λ v. (
-              omega (arith, leb-true (R .t) (countAccepted (verdictsOn J R b)) (u .0)),
-              some-stuck .0 (not-false (anyStuck (verdictsOn J R b)) (v .0)),
-            ))
-            (λ v. absurd (v .1))
-            (u .1))
-            (r .0 (sym draw-is ∙ e)),
-        λ h. draw-is ∙ r .1
-            (inr (
-              le-leb (R .t) (countAccepted (verdictsOn J R b)) (omega (arith, h .0)),
-              inl (ap not (some-stuck .1 (h .1)), refl),
-            )),
-      )
-
-  value-draw : (v : Element) → (drawOn J R b ≡ value v)
-      ↔ ((R .t ≤ many) × (SomeStuck J R b → ⊥) × (v .0 ≡ productOf (groupIn R .p) (map (secretAt J F) (acceptedDealers J R b))))
-  value-draw v =
-      let n = count-is in
-      let p = multiplied J F (groupIn R .p) (members (R .n)) in (
-        λ e.
-            let m = value-met lastChecks drawValue v (sym draw-is ∙ e) in (
-              omega (arith, leb-true (R .t) (countAccepted (verdictsOn J R b)) (m .0 .0)),
-              λ s. false-true (sym (not-true (anyStuck (verdictsOn J R b)) (m .0 .1 .0)) ∙ some-stuck .1 s),
-              ap (λ (x : Element). x .0) (sym (m .1)) ∙ p,
-            ),
-        λ h.
-            draw-is
-            ∙ value-exactly Element lastChecks drawValue .1 (
-              le-leb (R .t) (countAccepted (verdictsOn J R b)) (omega (arith, h .0)),
-              (none-stuck (anyStuck (verdictsOn J R b)) (λ e. h .1 (some-stuck .0 e)), tt),
-            )
-            ∙ (λ j. value (record { 0 = (p ∙ sym (h .2)) j })),
-      )
+  end-of : End J S b
+  end-of = by-tests (leb (S .t) (countAccepted verdicts)) (anyStuck verdicts) refl refl
     where
-      none-stuck : (x : Bool) → (x ≡ true → ⊥) → not x ≡ true
-      none-stuck true n = absurd (n refl)
-      none-stuck false n = refl
+      by-tests : (x y : Bool) → leb (S .t) (countAccepted verdicts) ≡ x → anyStuck verdicts ≡ y → End J S b
+      by-tests false y e f =
+          fourteen (omega (arith, count-is, leb-false (S .t) (countAccepted verdicts) e)) (draw-is ∙ pick-false (leb (S .t) (countAccepted verdicts)) _ _ e)
+      by-tests true true e f =
+          thirteen (omega (arith, count-is, leb-true (S .t) (countAccepted verdicts) e)) (some-stuck .0 f)
+          (draw-is ∙ pick-true (leb (S .t) (countAccepted verdicts)) _ _ e ∙ pick-false (not (anyStuck verdicts)) _ _ (ap not f))
+      by-tests true false e f =
+          drawn (omega (arith, count-is, leb-true (S .t) (countAccepted verdicts) e)) (λ s. false-true (sym f ∙ some-stuck .1 s))
+          (draw-is ∙ pick-true (leb (S .t) (countAccepted verdicts)) _ _ e ∙ pick-true (not (anyStuck verdicts)) _ _ (ap not f))
+
+-- ---- each exactly where its conditions hold
+module _ {J : Judges} {S : Setting} {b : List ℕ} where
+  fourteen-exactly : End J S b → (drawIn J S b ≡ refused 14) ↔ (length (acceptedDealers J S b) < S .t)
+  fourteen-exactly (fourteen l e) = (λ h. l, λ h. e)
+  fourteen-exactly (thirteen l s e) = (λ h. let z : _≡_ {A = ℕ} 13 14 = cc in absurd (omega arith), λ h. absurd (omega arith))
+  fourteen-exactly (drawn l n e) = (λ h. absurd (false-true (cc)), λ h. absurd (omega arith))
+
+  thirteen-exactly : End J S b → (drawIn J S b ≡ refused 13) ↔ ((S .t ≤ length (acceptedDealers J S b)) × SomeStuck J S b)
+  thirteen-exactly (fourteen l e) = (λ h. let z : _≡_ {A = ℕ} 13 14 = cc in absurd (omega arith), λ h. absurd (omega (arith, h .0)))
+  thirteen-exactly (thirteen l s e) = (λ h. (l, s), λ h. e)
+  thirteen-exactly (drawn l n e) = (λ h. absurd (false-true (cc)), λ h. absurd (n (h .1)))
+
+  drawn-exactly : End J S b → (v : Element)
+      → (drawIn J S b ≡ value v) ↔ ((S .t ≤ length (acceptedDealers J S b)) × (SomeStuck J S b → ⊥) × (v .0 ≡ secretsGiven J S b))
+  drawn-exactly (fourteen l e) v = (λ h. absurd (false-true (cc)), λ h. absurd (omega (arith, h .0)))
+  drawn-exactly (thirteen l s e) v = (λ h. absurd (false-true (cc)), λ h. absurd (h .1 s))
+  drawn-exactly (drawn l n e) v = (λ h. (l, n, cc), λ h. e ∙ (λ j. value (record { 0 = sym (h .2) j })))
 
 pub end-rules : EndRules
-end-rules J R b c = record { count = count-is J R b c; fourteen = few-draw J R b c; thirteen = stuck-draw J R b c; drawn = value-draw J R b c }
+end-rules J S P b m =
+    let e = end-of J S P b m in
+    record { count = count-is J S P b m; fourteen = fourteen-exactly e; thirteen = thirteen-exactly e; drawn = drawn-exactly e }

@@ -3,5 +3,5 @@ pub mod Sources
 pub mod VerdictCases
 pub mod Endings
 pub mod TwoBoards
-pub mod Recovered
+pub mod Honest
 pub mod Demand3

@@ -10,96 +10,96 @@ use borrow.Author.Tests.{lt-ltb, ltb-true, ltb-false}
 use lib.ListN.{length, take}
 use lib.Dec.{ltb}
 use Rattle.words.specs.Lists.{map}
+use Rattle.words.specs.Checks.{isValue}
 use Rattle.words.proofs.Tests.{false-true, and-true, true-and, pick-true, pick-false}
+use Rattle.words.proofs.Checks.{is-value}
 use Rattle.group.specs.declared.Element.{Element}
-use Rattle.sharing.specs.Answer.{openingOutcome}
-use Rattle.sharing.specs.Carried.{isValue}
-use Rattle.sharing.specs.declared.Round.{Round}
-use Rattle.sharing.proofs.Place.{is-value}
-use Rattle.posted.specs.Records.{recordAt}
+use Rattle.sharing.specs.Answer.{openingIn}
+use Rattle.sharing.specs.declared.Setting.{Setting}
+use Rattle.records.specs.Layout.{openingKind, memberOf, uOf, recordAt}
 use Rattle.board.specs.Search.{Ascending, recordsIn}
 use Rattle.board.specs.Board.{openingRecord}
-use Rattle.verdicts.specs.Verdict.{Judges, commitmentsOf, isShareBy, sharesBy, fromShares, isOpened, secretBy}
-use Rattle.demand3.specs.Claims.{RightlyOpened, powerOfH, recoveredFrom}
-use Rattle.verdicts.specs.declared.Secret.the-variants.{Opened, Recovered, Stuck}
 use Rattle.board.proofs.Searches.{filter-ascending}
-use Rattle.board.proofs.Order.{Formed, shapes, sorted, members-rise}
+use Rattle.board.proofs.Order.{Reached, shapes, sorted, members-rise}
 use Rattle.board.proofs.Places.{at-true, true-at, record-is, only-record}
-use Rattle.verdicts.proofs.ShareAnswers.{share-true}
+use Rattle.verdicts.specs.Verdict.{Judges, commitmentsOf, isShareBy, sharesBy, fromShares, isOpened, secretBy}
+use Rattle.verdicts.specs.declared.Secret.the-variants.{Opened, Recovered, Stuck}
+use Rattle.verdicts.proofs.ShareAnswers.{share-address}
+use Rattle.demand3.specs.Claims.{RightlyOpened, powerOfH, recoveredFrom}
 
 -- ---- accepted shares
-pub shares-ascend : (J : Judges) {R : Round} {b : List ℕ} → Formed R b → (d : ℕ) → Ascending (map (λ i. recordAt b i .w2) (sharesBy J R b d))
+pub shares-ascend : (J : Judges) {S : Setting} {b : List ℕ} → Reached S b → (d : ℕ) → Ascending (map (λ i. memberOf (recordAt b i)) (sharesBy J S b d))
 unfolding sharesBy
-shares-ascend J {R} {b} F d =
-    filter-ascending (isShareBy J R b d) (λ i. recordAt b i .w2) 0 (recordsIn b)
+shares-ascend J {S} {b} F d =
+    filter-ascending (isShareBy J S b d) (λ i. memberOf (recordAt b i)) 0 (recordsIn b)
     (λ i j l u e f.
-    let s = share-true J R b d i e in
-    let t = share-true J R b d j f in
-    members-rise (sorted F) i j l (omega arith) (s .0 ∙ sym (t .0)) (s .1 ∙ sym (t .1)))
+    let s = share-address J S b d i e in
+    let t = share-address J S b d j f in
+    members-rise (sorted (S .n) b (F .form)) i j l (omega arith) (s .0 ∙ sym (t .0)) (s .1 ∙ sym (t .1)))
 
 -- ---- the opening
-module _ {R : Round} {b : List ℕ} (F : Formed R b) (d : ℕ) where
-  only-opening : (o : RightlyOpened R b d) → o .at ≡ openingRecord b d
+module _ {S : Setting} {b : List ℕ} (F : Reached S b) (d : ℕ) where
+  only-opening : (o : RightlyOpened S b d) → o .at ≡ openingRecord b d
   only-opening o =
-      only-record (sorted F) 3 d 0 (o .at) (o .inside)
-      (true-at (recordAt b (o .at)) 3 d 0 (o .kind) (o .dealer) (shapes F (o .at) (o .inside) .opening (o .kind)))
+      only-record (sorted (S .n) b (F .form)) openingKind d 0 (o .at) (o .inside)
+      (true-at (recordAt b (o .at)) openingKind d 0 (o .kind) (o .dealer) (shapes (S .n) b (F .form) (o .at) (o .inside) .opening (o .kind)))
 
-  opened-right : isOpened R b d ≡ true → RightlyOpened R b d
+  opened-right : isOpened S b d ≡ true → RightlyOpened S b d
   unfolding isOpened
   opened-right e =
       let s = and-true (ltb (openingRecord b d) (recordsIn b)) _ e in
       let h = ltb-true (openingRecord b d) (recordsIn b) (s .0) in
-      let k = at-true (recordAt b (openingRecord b d)) 3 d 0 (record-is b 3 d 0 .here (omega arith)) in
-      record { at = openingRecord b d; inside = h; kind = k .0; dealer = k .1; right = is-value _ (s .1) }
+      let k = at-true (recordAt b (openingRecord b d)) openingKind d 0 (record-is b openingKind d 0 .here (omega arith)) in
+      record { at = openingRecord b d; inside = h; kind = k .0; dealer = k .1; right = is-value _ (s .1) .1 }
 
-  right-opened : RightlyOpened R b d → isOpened R b d ≡ true
+  right-opened : RightlyOpened S b d → isOpened S b d ≡ true
   unfolding isOpened
   right-opened o =
       let e = only-opening o in
       true-and (ltb (openingRecord b d) (recordsIn b)) _ (lt-ltb (openingRecord b d) (recordsIn b) (omega (arith, o .inside)))
-      (ap (λ (i : ℕ). isValue (openingOutcome R (commitmentsOf R b d) (recordAt b i .w3))) (sym e) ∙ ap isValue (o .right))
+      (ap (λ (i : ℕ). isValue (openingIn S (commitmentsOf S b d) (uOf (recordAt b i)))) (sym e) ∙ ap isValue (o .right))
 
 -- ---- the three sources of a secret
-pub data Source (J : Judges) (R : Round) (b : List ℕ) (d : ℕ) : Type 0 where
-  opened : (o : RightlyOpened R b d) → secretBy J R b d ≡ Opened (record { 0 = powerOfH R (recordAt b (o .at) .w3) }) → Source J R b d
-  recovers : (RightlyOpened R b d → ⊥) → R .t ≤ length (sharesBy J R b d)
-      → secretBy J R b d ≡ Recovered (record { 0 = recoveredFrom R b (take (R .t) (sharesBy J R b d)) }) → Source J R b d
-  stuck : (RightlyOpened R b d → ⊥) → length (sharesBy J R b d) < R .t → secretBy J R b d ≡ Stuck → Source J R b d
+pub data Source (J : Judges) (S : Setting) (b : List ℕ) (d : ℕ) : Type 0 where
+  opened : (o : RightlyOpened S b d) → secretBy J S b d ≡ Opened (record { 0 = powerOfH (S .group) (uOf (recordAt b (o .at))) }) → Source J S b d
+  recovers : (RightlyOpened S b d → ⊥) → S .t ≤ length (sharesBy J S b d)
+      → secretBy J S b d ≡ Recovered (record { 0 = recoveredFrom (S .group) b (take (S .t) (sharesBy J S b d)) }) → Source J S b d
+  stuck : (RightlyOpened S b d → ⊥) → length (sharesBy J S b d) < S .t → secretBy J S b d ≡ Stuck → Source J S b d
 
-module _ (J : Judges) {R : Round} {b : List ℕ} (F : Formed R b) (d : ℕ) where
-  pub source-of : Source J R b d
+module _ (J : Judges) {S : Setting} {b : List ℕ} (F : Reached S b) (d : ℕ) where
+  pub source-of : Source J S b d
   unfolding secretBy fromShares opened-right
-  source-of = by (isOpened R b d) (ltb (length (sharesBy J R b d)) (R .t)) refl refl
+  source-of = by-tests (isOpened S b d) (ltb (length (sharesBy J S b d)) (S .t)) refl refl
     where
-      by : (x y : Bool) → isOpened R b d ≡ x → ltb (length (sharesBy J R b d)) (R .t) ≡ y → Source J R b d
-      by true y e f = opened (opened-right F d e) (pick-true (isOpened R b d) _ _ e)
-      by false true e f =
-          stuck (λ o. false-true (sym e ∙ right-opened F d o)) (ltb-true (length (sharesBy J R b d)) (R .t) f)
-          (pick-false (isOpened R b d) _ _ e ∙ pick-true (ltb (length (sharesBy J R b d)) (R .t)) _ _ f)
-      by false false e f =
-          recovers (λ o. false-true (sym e ∙ right-opened F d o)) (ltb-false (length (sharesBy J R b d)) (R .t) f)
-          (pick-false (isOpened R b d) _ _ e ∙ pick-false (ltb (length (sharesBy J R b d)) (R .t)) _ _ f)
+      by-tests : (x y : Bool) → isOpened S b d ≡ x → ltb (length (sharesBy J S b d)) (S .t) ≡ y → Source J S b d
+      by-tests true y e f = opened (opened-right F d e) (pick-true (isOpened S b d) _ _ e)
+      by-tests false true e f =
+          stuck (λ o. false-true (sym e ∙ right-opened F d o)) (ltb-true (length (sharesBy J S b d)) (S .t) f)
+          (pick-false (isOpened S b d) _ _ e ∙ pick-true (ltb (length (sharesBy J S b d)) (S .t)) _ _ f)
+      by-tests false false e f =
+          recovers (λ o. false-true (sym e ∙ right-opened F d o)) (ltb-false (length (sharesBy J S b d)) (S .t) f)
+          (pick-false (isOpened S b d) _ _ e ∙ pick-false (ltb (length (sharesBy J S b d)) (S .t)) _ _ f)
 
   -- ---- each exactly where its conditions hold
-  pub opened-exactly : Source J R b d → (v : Element)
-      → (secretBy J R b d ≡ Opened v) ↔ ((o : RightlyOpened R b d) × (v .0 ≡ powerOfH R (recordAt b (o .at) .w3)))
+  pub opened-exactly : Source J S b d → (v : Element)
+      → (secretBy J S b d ≡ Opened v) ↔ ((o : RightlyOpened S b d) × (v .0 ≡ powerOfH (S .group) (uOf (recordAt b (o .at)))))
   opened-exactly (opened o e) v = (
     λ h. (o, cc),
     λ h.
-        let s : powerOfH R (recordAt b (o .at) .w3) ≡ v .0 =
-        ap (λ (i : ℕ). powerOfH R (recordAt b i .w3)) (only-opening F d o ∙ sym (only-opening F d (h .0))) ∙ sym (h .1) in
+        let s : powerOfH (S .group) (uOf (recordAt b (o .at))) ≡ v .0 =
+        ap (λ (i : ℕ). powerOfH (S .group) (uOf (recordAt b i))) (only-opening F d o ∙ sym (only-opening F d (h .0))) ∙ sym (h .1) in
         e ∙ (λ j. Opened (record { 0 = s j })),
   )
   opened-exactly (recovers n l e) v = (λ h. absurd (false-true (cc)), λ h. absurd (n (h .0)))
   opened-exactly (stuck n l e) v = (λ h. absurd (false-true (cc)), λ h. absurd (n (h .0)))
 
-  pub recovers-exactly : Source J R b d → (v : Element) → (secretBy J R b d ≡ Recovered v)
-      ↔ ((RightlyOpened R b d → ⊥) × (R .t ≤ length (sharesBy J R b d)) × (v .0 ≡ recoveredFrom R b (take (R .t) (sharesBy J R b d))))
+  pub recovers-exactly : Source J S b d → (v : Element) → (secretBy J S b d ≡ Recovered v)
+      ↔ ((RightlyOpened S b d → ⊥) × (S .t ≤ length (sharesBy J S b d)) × (v .0 ≡ recoveredFrom (S .group) b (take (S .t) (sharesBy J S b d))))
   recovers-exactly (opened o e) v = (λ h. absurd (false-true (cc)), λ h. absurd (h .0 o))
   recovers-exactly (recovers n l e) v = (λ h. (n, l, cc), λ h. e ∙ (λ j. Recovered (record { 0 = sym (h .2) j })))
   recovers-exactly (stuck n l e) v = (λ h. absurd (false-true (cc)), λ h. absurd (omega (arith, h .1)))
 
-  pub stuck-exactly : Source J R b d → (secretBy J R b d ≡ Stuck) ↔ ((RightlyOpened R b d → ⊥) × (length (sharesBy J R b d) < R .t))
+  pub stuck-exactly : Source J S b d → (secretBy J S b d ≡ Stuck) ↔ ((RightlyOpened S b d → ⊥) × (length (sharesBy J S b d) < S .t))
   stuck-exactly (opened o e) = (λ h. absurd (false-true (cc)), λ h. absurd (h .0 o))
   stuck-exactly (recovers n l e) = (λ h. absurd (false-true (cc)), λ h. absurd (omega (arith, h .1)))
   stuck-exactly (stuck n l e) = (λ h. (n, l), λ h. e)

@@ -9,129 +9,144 @@ use native.Mathlib.Omega.{arith}
 use lib.ListN.{length, take}
 use lib.Seq.{length-take-le}
 use Rattle.words.specs.Lists.{All, map}
-use Rattle.words.specs.Checks.{value}
+use Rattle.words.specs.Checks.{value, Met}
 use Rattle.words.proofs.Lists.{All-to, All-take, map-length, map-all, map-same, map-comp, take-map}
+use Rattle.words.proofs.Stages.{front-outcome}
 use Rattle.field.specs.Polynomial.{valueAt}
-use Rattle.sharing.specs.Round.{groupIn, members}
+use Rattle.group.specs.declared.Group.{Group}
+use Rattle.sharing.specs.Setting.{ProperSetting, settingIn, roundChecks, judged, members}
 use Rattle.sharing.specs.Answer.{recovered}
 use Rattle.sharing.specs.Carried.{Carries, Quorum, secretOf, powersAt}
-use Rattle.sharing.specs.declared.Round.{Round}
-use Rattle.sharing.proofs.Rounds.{ready}
+use Rattle.sharing.specs.declared.Setting.{Setting}
+use Rattle.sharing.proofs.Rounds.{round-proper, judged-in}
 use Rattle.sharing.proofs.Secret.{recovered-secret}
 use Rattle.sharing.proofs.Theorems.{opening-exactly, secret-of-commitments}
-use Rattle.posted.specs.Records.{recordAt}
-use Rattle.posted.proofs.Members.{each-members}
+use Rattle.records.specs.Layout.{memberOf, uOf, ZOf, recordAt}
+use Rattle.records.proofs.Members.{each-members}
 use Rattle.board.specs.Search.{Ascending, recordsIn}
-use Rattle.verdicts.specs.Verdict.{Judges, judges, isAccepted, commitmentsOf, isShareBy, sharesBy, secretBy}
-use Rattle.verdicts.specs.Draw.{secretValue, drawOn}
-use Rattle.demand3.specs.Claims.{powerOfH, recoveredFrom, acceptedDealers, productOf, SomeStuck, Recoverable, AllRecoverable, secretsOf, SameDraw, SameDrawHere}
-use Rattle.verdicts.specs.declared.Secret.the-variants.{Stuck}
 use Rattle.board.proofs.Searches.{filter-all, filter-up, filter-same, take-ascending, ascending-distinct}
-use Rattle.board.proofs.Order.{Formed, reached, shapes}
-use Rattle.verdicts.proofs.ShareAnswers.{share-true}
+use Rattle.board.proofs.Order.{Reached, reached, shapes}
+use Rattle.verdicts.specs.Verdict.{Judges, isAccepted, commitmentsOf, isShareBy, sharesBy, secretBy}
+use Rattle.verdicts.specs.Draw.{secretValue, boardDrawChecks, boardProduct, drawIn, drawOn}
+use Rattle.verdicts.specs.declared.Secret.the-variants.{Stuck}
+use Rattle.verdicts.proofs.ShareAnswers.{share-address}
+use Rattle.demand3.specs.Claims.{powerOfH, recoveredFrom, acceptedDealers, productOf, SomeStuck, Recoverable, AllRecoverable, secretsOf, SameDraw, DrawByRound}
 use Rattle.demand3.proofs.Sources.{Source, opened, recovers, stuck, source-of, stuck-exactly, shares-ascend}
 use Rattle.demand3.proofs.VerdictCases.{verdict-rules}
 use Rattle.demand3.proofs.Endings.{end-rules}
 
 -- ---- one recoverable dealing
-module _ {J : Judges} {R : Round} {b : List ℕ} (F : Formed R b) {d : ℕ} {cs : List ℕ} (S : Recoverable J R b d cs) where
+module _ {J : Judges} {S : Setting} (P : ProperSetting S) {b : List ℕ} (F : Reached S b) {d : ℕ} {f : List ℕ} (A : Recoverable J S b d f) where
   -- the records whose shares serve
   abbrev serving : List ℕ
-  serving = take (R .t) (sharesBy J R b d)
+  serving = take (S .t) (sharesBy J S b d)
 
   abbrev memberIn : ℕ → ℕ
-  memberIn i = recordAt b i .w2
+  memberIn i = memberOf (recordAt b i)
 
-  serving-shares : All (λ i. (i < recordsIn b) × (isShareBy J R b d i ≡ true)) serving
+  serving-shares : All (λ i. (i < recordsIn b) × (isShareBy J S b d i ≡ true)) serving
   unfolding sharesBy
   serving-shares =
-      All-take (λ i. (i < recordsIn b) × (isShareBy J R b d i ≡ true)) (R .t) (sharesBy J R b d)
-      (All-to (sharesBy J R b d) (λ i s. (omega (arith, s .0 .1), s .1)) (filter-up (isShareBy J R b d) 0 (recordsIn b)))
+      All-take (λ i. (i < recordsIn b) × (isShareBy J S b d i ≡ true)) (S .t) (sharesBy J S b d)
+      (All-to (sharesBy J S b d) (λ i s. (omega (arith, s .0 .1), s .1)) (filter-up (isShareBy J S b d) 0 (recordsIn b)))
 
-  serving-quorum : R .t ≤ length (sharesBy J R b d) → Quorum R (map memberIn serving)
+  serving-quorum : S .t ≤ length (sharesBy J S b d) → Quorum S (map memberIn serving)
   serving-quorum l =
       record {
         within =
-            map-all memberIn (λ i. (1 ≤ i) × (i ≤ R .n)) serving
+            map-all memberIn (λ i. (1 ≤ i) × (i ≤ S .n)) serving
             (All-to serving
-            (λ i s. let z = shapes F i (s .0) in (z .share (share-true J R b d i (s .1) .0), z .member))
+            (λ i s. let z = shapes (S .n) b (F .form) i (s .0) in (z .share (share-address J S b d i (s .1) .0) .2, z .member))
             serving-shares);
         distinct =
             ascending-distinct (map memberIn serving)
-            (subst Ascending (take-map memberIn (R .t) (sharesBy J R b d))
-            (take-ascending (R .t) (map memberIn (sharesBy J R b d)) (shares-ascend J F d)));
-        enough = omega (arith, map-length memberIn serving, length-take-le (R .t) (sharesBy J R b d) l);
+            (subst Ascending (take-map memberIn (S .t) (sharesBy J S b d))
+            (take-ascending (S .t) (map memberIn (sharesBy J S b d)) (shares-ascend J F d)));
+        enough = omega (arith, map-length memberIn serving, length-take-le (S .t) (sharesBy J S b d) l);
       }
 
   -- the shares that serve are true, so they recover h to the secret
-  serving-recover : R .t ≤ length (sharesBy J R b d) → recoveredFrom R b serving ≡ powerOfH R (secretOf R cs)
+  serving-recover : S .t ≤ length (sharesBy J S b d) → recoveredFrom (S .group) b serving ≡ powerOfH (S .group) (secretOf S f)
   unfolding powersAt
   serving-recover l =
-      let G = groupIn R in
-      let f : ℕ → ℕ = λ i. powerOfH R (valueAt (G .q) cs i) in
-      let trues : map (λ i. recordAt b i .w3) serving ≡ map f (map memberIn serving) =
-      map-same (λ i. recordAt b i .w3) (λ i. f (memberIn i)) serving (All-to serving (λ i s. S .true-shares i (s .0) (s .1)) serving-shares)
-      ∙ sym (map-comp memberIn f serving) in
+      let G : Group = S .group in
+      let Z : ℕ → ℕ = λ i. powerOfH G (valueAt (G .q) f i) in
+      let trues : map (λ i. ZOf (recordAt b i)) serving ≡ map Z (map memberIn serving) =
+      map-same (λ i. ZOf (recordAt b i)) (λ i. Z (memberIn i)) serving (All-to serving (λ i s. A .true-shares i (s .0) (s .1)) serving-shares)
+      ∙ sym (map-comp memberIn Z serving) in
       ap (recovered G (map memberIn serving)) trues
-      ∙ recovered-secret R (F .round) cs (S .carries .polynomial) (G .h .0) (ready R (F .round) .proper .h-generates)
+      ∙ recovered-secret S P f (A .carries .polynomial) (G .h .0) (P .proper .h-generates)
       (map memberIn serving) (serving-quorum l)
 
-  secret-is : Source J R b d → secretValue (secretBy J R b d) ≡ powerOfH R (secretOf R cs)
+  secret-is : Source J S b d → secretValue (secretBy J S b d) ≡ powerOfH (S .group) (secretOf S f)
   secret-is (opened o e) =
-      let s = opening-exactly R (F .round) cs (commitmentsOf R b d) (S .carries) (recordAt b (o .at) .w3) .0 (o .right) in
-      ap secretValue e ∙ ap (powerOfH R) s
+      let s = opening-exactly S P f (commitmentsOf S b d) (A .carries) (uOf (recordAt b (o .at))) .0 (o .right) in
+      ap secretValue e ∙ ap (powerOfH (S .group)) s
   secret-is (recovers n l e) = ap secretValue e ∙ serving-recover l
-  secret-is (stuck n l e) = absurd (⊎-elim n (λ h. omega arith) (S .enough))
+  secret-is (stuck n l e) = absurd (⊎-elim n (λ h. omega arith) (A .revealed))
 
-  not-stuck : secretBy J R b d ≡ Stuck → ⊥
-  not-stuck e = let s = stuck-exactly J F d (source-of J F d) .0 e in ⊎-elim (s .0) (λ l. omega (arith, s .1)) (S .enough)
+  not-stuck : secretBy J S b d ≡ Stuck → ⊥
+  not-stuck e = let s = stuck-exactly J F d (source-of J F d) .0 e in ⊎-elim (s .0) (λ l. omega (arith, s .1)) (A .revealed)
 
 -- ---- one board
-module _ (J : Judges) (R : Round) (b : List ℕ) (f : ℕ → List ℕ) (A : AllRecoverable J R b f) where
-  F : Formed R b
-  F = reached R b (A .reached) .formed
+module _ (J : Judges) (S : Setting) (P : ProperSetting S) (b : List ℕ) (f : ℕ → List ℕ) (A : AllRecoverable J S b f) where
+  F : Reached S b
+  F = reached S b (A .reached)
 
-  accepted-within : All (λ d. ((1 ≤ d) × (d ≤ R .n)) × (isAccepted J R b d ≡ true)) (acceptedDealers J R b)
+  accepted-within : All (λ d. ((1 ≤ d) × (d ≤ S .n)) × (isAccepted J S b d ≡ true)) (acceptedDealers J S b)
   accepted-within =
-      filter-all (isAccepted J R b) (λ d. (1 ≤ d) × (d ≤ R .n)) (members (R .n)) (each-members (λ d. (1 ≤ d) × (d ≤ R .n)) (R .n) (λ i h l. (h, l)))
+      filter-all (isAccepted J S b) (λ d. (1 ≤ d) × (d ≤ S .n)) (members (S .n)) (each-members (λ d. (1 ≤ d) × (d ≤ S .n)) (S .n) (λ i h l. (h, l)))
 
-  secrets : map (λ d. secretValue (secretBy J R b d)) (acceptedDealers J R b) ≡ map (λ d. powerOfH R (secretOf R (f d))) (acceptedDealers J R b)
+  secrets : map (λ d. secretValue (secretBy J S b d)) (acceptedDealers J S b) ≡ map (λ d. powerOfH (S .group) (secretOf S (f d))) (acceptedDealers J S b)
   secrets =
-      map-same (λ d. secretValue (secretBy J R b d)) (λ d. powerOfH R (secretOf R (f d))) (acceptedDealers J R b)
-      (All-to (acceptedDealers J R b)
-      (λ d s. secret-is F (A .each d (s .0 .0) (s .0 .1) (s .1)) (source-of J F d))
+      map-same (λ d. secretValue (secretBy J S b d)) (λ d. powerOfH (S .group) (secretOf S (f d))) (acceptedDealers J S b)
+      (All-to (acceptedDealers J S b)
+      (λ d s. secret-is P F (A .recoverable d (s .0 .0) (s .0 .1) (s .1)) (source-of J F d))
       accepted-within)
 
-  none-stuck : SomeStuck J R b → ⊥
+  none-stuck : SomeStuck J S b → ⊥
   none-stuck s =
-      let a = verdict-rules J R b (A .reached) (s .0) .accepted Stuck .0 (s .3) in
-      not-stuck F (A .each (s .0) (s .1) (s .2) (a .0)) (a .1)
+      let a = verdict-rules J S P b (A .reached) (s .0) .accepted Stuck .0 (s .3) in
+      not-stuck P F (A .recoverable (s .0) (s .1) (s .2) (a .0)) (a .1)
 
-  ends-in : R .t ≤ length (acceptedDealers J R b) → drawOn J R b ≡ value (record { 0 = secretsOf J R b f })
-  ends-in l = end-rules J R b (A .reached) .drawn (record { 0 = secretsOf J R b f }) .1 (l, none-stuck, ap (productOf (groupIn R .p)) (sym secrets))
+  ends-in : S .t ≤ length (acceptedDealers J S b) → drawIn J S b ≡ value (record { 0 = secretsOf J S b f })
+  ends-in l = end-rules J S P b (A .reached) .drawn (record { 0 = secretsOf J S b f }) .1 (l, none-stuck, ap (productOf (S .group .p)) (sym secrets))
 
 -- ---- both boards
-pub same-draw : SameDraw
-same-draw J R b c f e A C M l = (
-  ends-in J R b f A l,
-  ends-in J R c e C (subst (λ (ds : List ℕ). R .t ≤ length ds) same l) ∙ (λ j. value (record { 0 = sym other j })),
+pub same-draw : (J : Judges) → SameDraw J
+same-draw J S P b c f₁ f₂ A C M l = (
+  ends-in J S P b f₁ A l,
+  ends-in J S P c f₂ C (subst (λ (ds : List ℕ). S .t ≤ length ds) same l) ∙ (λ j. value (record { 0 = sym other j })),
 )
   where
-    same : acceptedDealers J R b ≡ acceptedDealers J R c
+    same : acceptedDealers J S b ≡ acceptedDealers J S c
     same =
-        filter-same (isAccepted J R b) (isAccepted J R c) (members (R .n))
-        (each-members (λ d. isAccepted J R b d ≡ isAccepted J R c d) (R .n) (M .dealers))
+        filter-same (isAccepted J S b) (isAccepted J S c) (members (S .n))
+        (each-members (λ d. isAccepted J S b d ≡ isAccepted J S c d) (S .n) (M .dealers))
 
-    secret : (d : ℕ) → 1 ≤ d → d ≤ R .n → isAccepted J R b d ≡ true → secretOf R (f d) ≡ secretOf R (e d)
+    secret : (d : ℕ) → 1 ≤ d → d ≤ S .n → isAccepted J S b d ≡ true → secretOf S (f₁ d) ≡ secretOf S (f₂ d)
     secret d h u a =
-        secret-of-commitments R (reached R b (A .reached) .formed .round) (f d) (e d) (commitmentsOf R b d) (A .each d h u a .carries)
-        (subst (Carries R (e d)) (sym (M .commitments d h u a)) (C .each d h u (sym (M .dealers d h u) ∙ a) .carries))
+        secret-of-commitments S P (f₁ d) (f₂ d) (commitmentsOf S b d) (A .recoverable d h u a .carries)
+        (subst (Carries S (f₂ d)) (sym (M .commitments d h u a)) (C .recoverable d h u (sym (M .dealers d h u) ∙ a) .carries))
 
-    other : secretsOf J R b f ≡ secretsOf J R c e
+    other : secretsOf J S b f₁ ≡ secretsOf J S c f₂
     other =
-        let maps = map-same (λ d. powerOfH R (secretOf R (f d))) (λ d. powerOfH R (secretOf R (e d))) (acceptedDealers J R b)
-        (All-to (acceptedDealers J R b) (λ d s. ap (powerOfH R) (secret d (s .0 .0) (s .0 .1) (s .1))) (accepted-within J R b f A)) in
-        ap (productOf (groupIn R .p)) (maps ∙ ap (map (λ d. powerOfH R (secretOf R (e d)))) same)
+        let maps = map-same (λ d. powerOfH (S .group) (secretOf S (f₁ d))) (λ d. powerOfH (S .group) (secretOf S (f₂ d))) (acceptedDealers J S b)
+        (All-to (acceptedDealers J S b) (λ d s. ap (powerOfH (S .group)) (secret d (s .0 .0) (s .0 .1) (s .1))) (accepted-within J S P b f₁ A)) in
+        ap (productOf (S .group .p)) (maps ∙ ap (map (λ d. powerOfH (S .group) (secretOf S (f₂ d)))) same)
 
-pub same-draw-here : SameDrawHere
-same-draw-here = same-draw judges
+-- ---- over a round
+pub draw-by-round : (J : Judges) → DrawByRound J
+unfolding drawOn drawIn judged
+draw-by-round J R =
+    record {
+      refuses = λ b k u. sym (front-outcome (roundChecks R) (boardDrawChecks J (settingIn R) b) k u (boardProduct J (settingIn R) b));
+      proper = round-proper R;
+      draw-in = draw-in;
+      same-draw = λ m b c f₁ f₂ A C M l.
+          let d = same-draw J (settingIn R) (round-proper R m) b c f₁ f₂ A C M l in
+          (draw-in m b ∙ d .0, draw-in m c ∙ d .1);
+    }
+  where
+    draw-in : Met (roundChecks R) → (b : List ℕ) → drawOn J R b ≡ drawIn J (settingIn R) b
+    draw-in m b = judged-in R (λ S. boardDrawChecks J S b) (λ S. boardProduct J S b) m

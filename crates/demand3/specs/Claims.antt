@@ -1,4 +1,5 @@
--- What is claimed of judged boards: the rules of verdicts, how a board ends, and the last sentence of demand 3.
+-- What is claimed of judged boards, in every proper setting: the rules of verdicts, how a board ends, and the last sentence of demand 3.
+-- DrawByRound reads this off for rounds, as the board judge answers.
 use mathlib.Core.Path.{_≡_}
 use mathlib.Core.Bool.{true}
 use mathlib.Core.List.{List, [], _∷_}
@@ -6,130 +7,146 @@ use mathlib.Core.Logic.{_⊎_, _↔_}
 use Prim.Native.Nat.{ℕ, _<_, _≤_}
 use lib.ListN.{length, take}
 use Rattle.words.specs.Lists.{map}
-use Rattle.words.specs.Checks.{value, refused, Met, FirstUnmet}
+use Rattle.words.specs.Checks.{Outcome, value, refused, Met, FirstUnmet}
 use Rattle.field.specs.Residue.{mul}
 use Rattle.field.specs.Polynomial.{valueAt}
 use Rattle.group.specs.Power.{pow}
 use Rattle.group.specs.declared.Element.{Element}
-use Rattle.sharing.specs.Round.{groupIn, members}
-use Rattle.sharing.specs.Answer.{openingOutcome, recovered}
+use Rattle.group.specs.declared.Group.{Group}
+use Rattle.sharing.specs.Setting.{ProperSetting, settingIn, roundChecks, members}
+use Rattle.sharing.specs.Answer.{openingIn, recovered}
 use Rattle.sharing.specs.Carried.{Carries, secretOf}
 use Rattle.sharing.specs.declared.Round.{Round}
-use Rattle.posted.specs.Records.{recordAt}
+use Rattle.sharing.specs.declared.Setting.{Setting}
+use Rattle.records.specs.Layout.{lineKind, openingKind, dealerOf, memberOf, uOf, ZOf, recordAt}
 use Rattle.board.specs.Search.{filter, Ascending, recordsIn}
 use Rattle.board.specs.Board.{boardChecks, lineCount}
-use Rattle.verdicts.specs.Verdict.{Judges, judges, dealingAnswer, isAccepted, commitmentsOf, isShareBy, sharesBy, secretBy, verdictOn, verdictsOn}
-use Rattle.verdicts.specs.Draw.{countAccepted, secretValue, drawOn}
+use Rattle.verdicts.specs.Verdict.{Judges, dealingAnswer, isAccepted, commitmentsOf, isShareBy, sharesBy, secretBy, verdictOn, verdictsOn}
+use Rattle.verdicts.specs.Draw.{countAccepted, secretValue, drawIn, drawOn}
 use Rattle.verdicts.specs.declared.Secret.{Secret}
 use Rattle.verdicts.specs.declared.Secret.the-variants.{Opened, Recovered, Stuck}
 use Rattle.verdicts.specs.declared.Verdict.the-variants.{None, Refused, Accepted}
 
 -- ---- words of the claims
 -- the board's kind 3 record of the dealer holds an opening accepted for his commitments
-pub record RightlyOpened (R : Round) (b : List ℕ) (d : ℕ) : Type 0 where
+pub record RightlyOpened (S : Setting) (b : List ℕ) (d : ℕ) : Type 0 where
   pub at : ℕ
   pub inside : at < recordsIn b
-  pub kind : recordAt b at .w0 ≡ 3
-  pub dealer : recordAt b at .w1 ≡ d
-  pub right : openingOutcome R (commitmentsOf R b d) (recordAt b at .w3) ≡ value tt
+  pub kind : recordAt b at .w0 ≡ openingKind
+  pub dealer : dealerOf (recordAt b at) ≡ d
+  pub right : openingIn S (commitmentsOf S b d) (uOf (recordAt b at)) ≡ value tt
 
--- h^s
-abbrev pub powerOfH : Round → ℕ → ℕ
-powerOfH R s = pow (groupIn R .p) (groupIn R .h .0) s
+-- his dealing is rightly opened or has t or more accepted shares
+abbrev pub Revealed : Judges → Setting → List ℕ → ℕ → Type 0
+Revealed J S b d = RightlyOpened S b d ⊎ (S .t ≤ length (sharesBy J S b d))
+
+-- h^e
+abbrev pub powerOfH : Group → ℕ → ℕ
+powerOfH G e = pow (G .p) (G .h .0) e
 
 -- what recovery gives from the shares in the records is
-abbrev pub recoveredFrom : Round → List ℕ → List ℕ → ℕ
-recoveredFrom R b is = recovered (groupIn R) (map (λ i. recordAt b i .w2) is) (map (λ i. recordAt b i .w3) is)
+abbrev pub recoveredFrom : Group → List ℕ → List ℕ → ℕ
+recoveredFrom G b is = recovered G (map (λ i. memberOf (recordAt b i)) is) (map (λ i. ZOf (recordAt b i)) is)
 
 -- the dealers whose dealings are accepted
-abbrev pub acceptedDealers : Judges → Round → List ℕ → List ℕ
-acceptedDealers J R b = filter (isAccepted J R b) (members (R .n))
+abbrev pub acceptedDealers : Judges → Setting → List ℕ → List ℕ
+acceptedDealers J S b = filter (isAccepted J S b) (members (S .n))
 
 -- the product modulo p of a list
 abbrev pub productOf : ℕ → List ℕ → ℕ
 productOf p [] = 1
 productOf p (x ∷ xs) = mul p x (productOf p xs)
 
--- ---- verdict rules
-pub record VerdictRule (J : Judges) (R : Round) (b : List ℕ) (d : ℕ) : Type 0 where
+-- ---- verdict rules: "A dealer's verdict is none exactly where he has no lines", and what follows it
+pub record VerdictRule (J : Judges) (S : Setting) (b : List ℕ) (d : ℕ) : Type 0 where
   -- none exactly where he has no lines
-  pub none : (verdictOn J R b d ≡ None) ↔ ((i : ℕ) → i < recordsIn b → recordAt b i .w0 ≡ 2 → recordAt b i .w1 ≡ d → ⊥)
+  pub none : (verdictOn J S b d ≡ None) ↔ ((i : ℕ) → i < recordsIn b → recordAt b i .w0 ≡ lineKind → dealerOf (recordAt b i) ≡ d → ⊥)
   -- refused by 12 where he has some lines but not n, and by the judge's number where it refuses his n lines
-  pub refuses : (k : ℕ) → (verdictOn J R b d ≡ Refused k)
-      ↔ (((lineCount b d ≡ 0 → ⊥) × (lineCount b d ≡ R .n → ⊥) × (k ≡ 12)) ⊎ ((lineCount b d ≡ R .n) × (dealingAnswer J R b d ≡ refused k)))
+  pub refuses : (k : ℕ) → (verdictOn J S b d ≡ Refused k)
+      ↔ (((lineCount b d ≡ 0 → ⊥) × (lineCount b d ≡ S .n → ⊥) × (k ≡ 12)) ⊎ ((lineCount b d ≡ S .n) × (dealingAnswer J S b d ≡ refused k)))
   -- accepted where the judge accepts his n lines
-  pub accepts : (isAccepted J R b d ≡ true) ↔ ((lineCount b d ≡ R .n) × (dealingAnswer J R b d ≡ value tt))
-  pub accepted : (s : Secret) → (verdictOn J R b d ≡ Accepted s) ↔ ((isAccepted J R b d ≡ true) × (secretBy J R b d ≡ s))
+  pub accepts : (isAccepted J S b d ≡ true) ↔ ((lineCount b d ≡ S .n) × (dealingAnswer J S b d ≡ value tt))
+  pub accepted : (s : Secret) → (verdictOn J S b d ≡ Accepted s) ↔ ((isAccepted J S b d ≡ true) × (secretBy J S b d ≡ s))
   -- the secret is opened exactly where the board's kind 3 record of the dealer holds an accepted opening, and is h to it
-  pub opened : (v : Element) → (secretBy J R b d ≡ Opened v) ↔ ((o : RightlyOpened R b d) × (v .0 ≡ powerOfH R (recordAt b (o .at) .w3)))
+  pub opened : (v : Element) → (secretBy J S b d ≡ Opened v) ↔ ((o : RightlyOpened S b d) × (v .0 ≡ powerOfH (S .group) (uOf (recordAt b (o .at)))))
   -- recovered exactly where no opening is right and t or more shares are accepted; the t lowest members serve
-  pub recovers : (v : Element) → (secretBy J R b d ≡ Recovered v)
-      ↔ ((RightlyOpened R b d → ⊥) × (R .t ≤ length (sharesBy J R b d)) × (v .0 ≡ recoveredFrom R b (take (R .t) (sharesBy J R b d))))
-  pub lowest-first : Ascending (map (λ i. recordAt b i .w2) (sharesBy J R b d))
+  pub recovers : (v : Element) → (secretBy J S b d ≡ Recovered v)
+      ↔ ((RightlyOpened S b d → ⊥) × (S .t ≤ length (sharesBy J S b d)) × (v .0 ≡ recoveredFrom (S .group) b (take (S .t) (sharesBy J S b d))))
+  pub lowest-first : Ascending (map (λ i. memberOf (recordAt b i)) (sharesBy J S b d))
   -- stuck exactly where no opening is right and fewer than t shares are accepted
-  pub stuck : (secretBy J R b d ≡ Stuck) ↔ ((RightlyOpened R b d → ⊥) × (length (sharesBy J R b d) < R .t))
+  pub stuck : (secretBy J S b d ≡ Stuck) ↔ ((RightlyOpened S b d → ⊥) × (length (sharesBy J S b d) < S .t))
 
 abbrev pub VerdictRules : Type 0
-VerdictRules = (J : Judges) (R : Round) (b : List ℕ) → Met (boardChecks R b) → (d : ℕ) → VerdictRule J R b d
+VerdictRules = (J : Judges) (S : Setting) → ProperSetting S → (b : List ℕ) → Met (boardChecks S b) → (d : ℕ) → VerdictRule J S b d
 
 -- ---- how a board ends
--- a board that a check before the verdicts refuses
+-- a board that a check before the verdicts refuses: "Verdicts are reached only on a board that no check before them refuses"
 abbrev pub RefusedBefore : Type 0
-RefusedBefore = (J : Judges) (R : Round) (b : List ℕ) (k : ℕ) → FirstUnmet k (boardChecks R b) → drawOn J R b ≡ refused k
+RefusedBefore = (J : Judges) (S : Setting) (b : List ℕ) (k : ℕ) → FirstUnmet k (boardChecks S b) → drawIn J S b ≡ refused k
 
-abbrev pub SomeStuck : Judges → Round → List ℕ → Type 0
-SomeStuck J R b = (d : ℕ) × (1 ≤ d) × (d ≤ R .n) × (verdictOn J R b d ≡ Accepted Stuck)
+abbrev pub SomeStuck : Judges → Setting → List ℕ → Type 0
+SomeStuck J S b = (d : ℕ) × (1 ≤ d) × (d ≤ S .n) × (verdictOn J S b d ≡ Accepted Stuck)
 
--- a board whose verdicts are reached
-pub record EndRule (J : Judges) (R : Round) (b : List ℕ) : Type 0 where
-  pub count : countAccepted (verdictsOn J R b) ≡ length (acceptedDealers J R b)
+-- a board whose verdicts are reached: "Then, after all verdicts, 14 fewer than t accepted; 13 a stuck dealing"
+pub record EndRule (J : Judges) (S : Setting) (b : List ℕ) : Type 0 where
+  -- the count of accepted dealings, stuck ones included
+  pub count : countAccepted (verdictsOn J S b) ≡ length (acceptedDealers J S b)
   -- 14 exactly where fewer than t dealings are accepted
-  pub fourteen : (drawOn J R b ≡ refused 14) ↔ (length (acceptedDealers J R b) < R .t)
+  pub fourteen : (drawIn J S b ≡ refused 14) ↔ (length (acceptedDealers J S b) < S .t)
   -- 13 exactly where t or more are accepted and one is stuck
-  pub thirteen : (drawOn J R b ≡ refused 13) ↔ ((R .t ≤ length (acceptedDealers J R b)) × SomeStuck J R b)
+  pub thirteen : (drawIn J S b ≡ refused 13) ↔ ((S .t ≤ length (acceptedDealers J S b)) × SomeStuck J S b)
   -- a draw exactly where t or more are accepted and none is stuck: the product modulo p of the secrets of the accepted dealings
-  pub drawn : (v : Element) → (drawOn J R b ≡ value v)
-      ↔ ((R .t ≤ length (acceptedDealers J R b)) × (SomeStuck J R b → ⊥)
-      × (v .0 ≡ productOf (groupIn R .p) (map (λ d. secretValue (secretBy J R b d)) (acceptedDealers J R b))))
+  pub drawn : (v : Element) → (drawIn J S b ≡ value v)
+      ↔ ((S .t ≤ length (acceptedDealers J S b)) × (SomeStuck J S b → ⊥)
+      × (v .0 ≡ productOf (S .group .p) (map (λ d. secretValue (secretBy J S b d)) (acceptedDealers J S b))))
 
 abbrev pub EndRules : Type 0
-EndRules = (J : Judges) (R : Round) (b : List ℕ) → Met (boardChecks R b) → EndRule J R b
+EndRules = (J : Judges) (S : Setting) → ProperSetting S → (b : List ℕ) → Met (boardChecks S b) → EndRule J S b
 
 -- ---- demand 3, two boards
--- the dealing of d on the board b is carried by cs, its accepted shares are true, and it is rightly opened or has t or more of them
-pub record Recoverable (J : Judges) (R : Round) (b : List ℕ) (d : ℕ) (cs : List ℕ) : Type 0 where
-  pub carries : Carries R cs (commitmentsOf R b d)
-  pub true-shares : (i : ℕ) → i < recordsIn b → isShareBy J R b d i ≡ true
-      → recordAt b i .w3 ≡ powerOfH R (valueAt (groupIn R .q) cs (recordAt b i .w2))
-  pub enough : RightlyOpened R b d ⊎ (R .t ≤ length (sharesBy J R b d))
+-- the dealing of d on the board b is carried by f, its accepted shares are true, and it is rightly opened or has t or more of them
+pub record Recoverable (J : Judges) (S : Setting) (b : List ℕ) (d : ℕ) (f : List ℕ) : Type 0 where
+  pub carries : Carries S f (commitmentsOf S b d)
+  pub true-shares : (i : ℕ) → i < recordsIn b → isShareBy J S b d i ≡ true
+      → ZOf (recordAt b i) ≡ powerOfH (S .group) (valueAt (S .group .q) f (memberOf (recordAt b i)))
+  pub revealed : Revealed J S b d
 
 -- no check before the verdicts refuses the board, and every accepted dealing is recoverable, that of d with the polynomial f d
-pub record AllRecoverable (J : Judges) (R : Round) (b : List ℕ) (f : ℕ → List ℕ) : Type 0 where
-  pub reached : Met (boardChecks R b)
-  pub each : (d : ℕ) → 1 ≤ d → d ≤ R .n → isAccepted J R b d ≡ true → Recoverable J R b d (f d)
+pub record AllRecoverable (J : Judges) (S : Setting) (b : List ℕ) (f : ℕ → List ℕ) : Type 0 where
+  pub reached : Met (boardChecks S b)
+  pub recoverable : (d : ℕ) → 1 ≤ d → d ≤ S .n → isAccepted J S b d ≡ true → Recoverable J S b d (f d)
 
 -- the same dealers' dealings are accepted, and each has the same commitments; keys, Y and all else may differ
-pub record SameDealings (J : Judges) (R : Round) (b c : List ℕ) : Type 0 where
-  pub dealers : (d : ℕ) → 1 ≤ d → d ≤ R .n → isAccepted J R b d ≡ isAccepted J R c d
-  pub commitments : (d : ℕ) → 1 ≤ d → d ≤ R .n → isAccepted J R b d ≡ true → commitmentsOf R b d ≡ commitmentsOf R c d
+pub record SameDealings (J : Judges) (S : Setting) (b c : List ℕ) : Type 0 where
+  pub dealers : (d : ℕ) → 1 ≤ d → d ≤ S .n → isAccepted J S b d ≡ isAccepted J S c d
+  pub commitments : (d : ℕ) → 1 ≤ d → d ≤ S .n → isAccepted J S b d ≡ true → commitmentsOf S b d ≡ commitmentsOf S c d
 
 -- the product modulo p of the h^s of the accepted dealings, that of d with the polynomial f d
-abbrev pub secretsOf : Judges → Round → List ℕ → (ℕ → List ℕ) → ℕ
-secretsOf J R b f = productOf (groupIn R .p) (map (λ d. powerOfH R (secretOf R (f d))) (acceptedDealers J R b))
+abbrev pub secretsOf : Judges → Setting → List ℕ → (ℕ → List ℕ) → ℕ
+secretsOf J S b f = productOf (S .group .p) (map (λ d. powerOfH (S .group) (secretOf S (f d))) (acceptedDealers J S b))
 
 -- F. Any two boards of one group, n and t with the same accepted dealings, at least t of them, each carried by a polynomial of degree
 -- below t, end in the same draw value, the product of the h^s modulo p, if on each board every one of these dealings is rightly opened
--- or has t or more accepted shares and all accepted shares are true. The polynomials may be named differently for the two boards.
-abbrev pub SameDrawBy : Judges → Type 0
-SameDrawBy J =
-    (R : Round) (b c : List ℕ) (f e : ℕ → List ℕ) → AllRecoverable J R b f → AllRecoverable J R c e → SameDealings J R b c
-    → R .t ≤ length (acceptedDealers J R b)
-    → (drawOn J R b ≡ value (record { 0 = secretsOf J R b f })) × (drawOn J R c ≡ value (record { 0 = secretsOf J R b f }))
+-- or has t or more accepted shares and all accepted shares are true. The polynomials may be named differently for the two boards;
+-- draw b is what is answered for the board b.
+abbrev pub TwoBoards : Judges → Setting → (List ℕ → Outcome Element) → Type 0
+TwoBoards J S draw =
+    (b c : List ℕ) (f₁ f₂ : ℕ → List ℕ) → AllRecoverable J S b f₁ → AllRecoverable J S c f₂ → SameDealings J S b c
+    → S .t ≤ length (acceptedDealers J S b)
+    → (draw b ≡ value (record { 0 = secretsOf J S b f₁ })) × (draw c ≡ value (record { 0 = secretsOf J S b f₁ }))
 
--- whatever the judges are
-abbrev pub SameDraw : Type 0
-SameDraw = (J : Judges) → SameDrawBy J
+-- in every proper setting; nothing is asked of the judges
+abbrev pub SameDraw : Judges → Type 0
+SameDraw J = (S : Setting) → ProperSetting S → TwoBoards J S (drawIn J S)
 
--- with the judges of the crate dealing: what the board judge answers
-abbrev pub SameDrawHere : Type 0
-SameDrawHere = SameDrawBy judges
+-- ---- over a round
+-- what the board judge answers: it refuses a round that 1 or 2 refuses by that number. The setting of any other is proper, and the
+-- board judge answers what it answers there, so F holds of its answers
+pub record DrawOverRound (J : Judges) (R : Round) : Type 0 where
+  pub refuses : (b : List ℕ) (k : ℕ) → FirstUnmet k (roundChecks R) → drawOn J R b ≡ refused k
+  pub proper : Met (roundChecks R) → ProperSetting (settingIn R)
+  pub draw-in : Met (roundChecks R) → (b : List ℕ) → drawOn J R b ≡ drawIn J (settingIn R) b
+  pub same-draw : Met (roundChecks R) → TwoBoards J (settingIn R) (drawOn J R)
+
+abbrev pub DrawByRound : Judges → Type 0
+DrawByRound J = (R : Round) → DrawOverRound J R

@@ -1,7 +1,9 @@
--- Demand 3 whole, sentence by sentence: A to E on one dealing's commitments, F on two boards. Each is stated over the answers of the
--- operations, for every round that 1 and 2 do not refuse.
-use Rattle.sharing.specs.Claims.{AlwaysCarried, UncarriedOneValue, CarriedPasses, OpeningExactly, QuorumRecovers}
-use Rattle.demand3.specs.Claims.{SameDrawHere}
+-- Demand 3 whole, sentence by sentence: A to E on one dealing's commitments, F on two boards. Each is stated over what the operations
+-- answer, for every proper setting: any proper group whose figures fit a word, with any n and t in their ranges. The two last lines
+-- read it off for every round that 1 and 2 do not refuse.
+use Rattle.sharing.specs.Claims.{AlwaysCarried, UncarriedOneValue, CarriedPasses, CarriedExactly, OpeningExactly, QuorumRecovers, RoundBySetting}
+use Rattle.verdicts.specs.Verdict.{judges}
+use Rattle.demand3.specs.Claims.{SameDraw, DrawByRound}
 
 pub record Demand3 : Type 0 where
   -- A. With n = t there is no place of a check polynomial, and some polynomial of degree below t carries any n elements.
@@ -11,10 +13,16 @@ pub record Demand3 : Type 0 where
   pub one-value : UncarriedOneValue
   -- C. Where such a polynomial carries the commitments, every check polynomial passes.
   pub carried-passes : CarriedPasses
+  -- B and C together: n elements are carried exactly if the unit check polynomial of every place passes.
+  pub carried-exactly : CarriedExactly
   -- D. An opening is accepted exactly when it is the polynomial's value at 0.
   pub opening-exactly : OpeningExactly
   -- E. True shares of t or more different members, in whatever order, recover h^s, the secret that the accepted opening gives.
   pub quorum-recovers : QuorumRecovers
   -- F. Two boards with the same accepted dealings, t or more, each carried, opened or with t or more accepted shares, all of them true,
-  -- end in the same draw value, the product of the h^s modulo p.
-  pub same-draw : SameDrawHere
+  -- end in the same draw value, the product of the h^s modulo p. The judges are those of the crates dealing and share.
+  pub same-draw : SameDraw judges
+  -- A to E over a round: each operation answers what it answers in the round's setting, which is proper.
+  pub round-by-setting : RoundBySetting
+  -- F over a round: what the board judge answers.
+  pub draw-by-round : DrawByRound judges

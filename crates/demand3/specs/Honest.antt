@@ -1,35 +1,44 @@
--- Honest delegates meet the hypotheses: what is written from proper figures is accepted, true, and recovers the secret.
+-- Honest delegates meet the hypotheses, in every proper setting: what is written from proper figures is accepted, true, and recovers
+-- the secret.
 use mathlib.Core.Path.{_≡_}
 use mathlib.Core.List.{List}
 use Prim.Native.Nat.{ℕ, _*_, _<_, _≤_}
 use Rattle.words.specs.Lists.{All, map}
 use Rattle.words.specs.Checks.{value}
 use Rattle.field.specs.Polynomial.{valueAt}
-use Rattle.group.specs.Power.{pow}
-use Rattle.sharing.specs.Round.{groupIn}
-use Rattle.sharing.specs.Answer.{recoveryOutcome}
+use Rattle.group.specs.declared.Group.{Group}
+use Rattle.sharing.specs.Setting.{ProperSetting}
+use Rattle.sharing.specs.Answer.{recoveryIn}
 use Rattle.sharing.specs.Carried.{Quorum, secretOf}
-use Rattle.sharing.specs.declared.Round.{Round}
-use Rattle.posted.specs.Records.{entry}
-use Rattle.dealing.specs.Dealing.{writeDealingOutcome, writtenDealing, YIn}
-use Rattle.opened.specs.Share.{keyOf, shareOf, writeShareOutcome, writtenShare, judgeShareOutcome}
+use Rattle.sharing.specs.declared.Setting.{Setting}
+use Rattle.records.specs.Layout.{entry}
+use Rattle.dealing.specs.Dealing.{writeDealingIn, writtenDealing, YIn}
+use Rattle.share.specs.Share.{keyOf, shareOf, writeShareIn, writtenShare, judgeShareIn}
+use Rattle.demand3.specs.Claims.{powerOfH}
 
--- honest delegates: from his line of a written dealing and his secret key a member may write a share. It is accepted with his key
--- and the line's Y, and answers h to the polynomial's value at him
-abbrev pub DealtShareAccepted : Type 0
-DealtShareAccepted =
-    (R : Round) (d : ℕ) (ys cs ws : List ℕ) → writeDealingOutcome R d ys cs ws (32 * R .n) ≡ value tt
-    → (i x w : ℕ) → 1 ≤ i → i ≤ R .n → 1 ≤ x → x < groupIn R .q → w < groupIn R .q → entry ys i ≡ keyOf (groupIn R) x
-    → (writeShareOutcome R d i (YIn (writtenDealing R d ys cs ws) i) x w 32 ≡ value tt)
-    × (judgeShareOutcome R d i (entry ys i) (YIn (writtenDealing R d ys cs ws) i)
-    (writtenShare R d i (YIn (writtenDealing R d ys cs ws) i) x w)
-    ≡ value (record { 0 = pow (groupIn R .p) (groupIn R .h .0) (valueAt (groupIn R .q) cs i) }))
+-- x is the secret key of member i, whose key stands among the keys ys
+pub record HoldsKey (G : Group) (ys : List ℕ) (i x : ℕ) : Type 0 where
+  pub some : 1 ≤ x
+  pub low : x < G .q
+  pub key : entry ys i ≡ keyOf G x
 
--- shares that t or more members write from their lines of a written dealing recover its secret
+-- the Y in the line of member i of a written dealing
+abbrev pub lineY : Setting → ℕ → List ℕ → List ℕ → List ℕ → ℕ → ℕ
+lineY S d ys f ws i = YIn (writtenDealing S d ys f ws) i
+
+-- "Everything written from proper figures is accepted", for the share that a member writes from his line of a written dealing and his
+-- secret key: it is accepted with his key and the line's Y, and answers h to the polynomial's value at him
+abbrev pub LineShareAccepted : Type 0
+LineShareAccepted =
+    (S : Setting) → ProperSetting S → (d : ℕ) (ys f ws : List ℕ) → writeDealingIn S d ys f ws (32 * S .n) ≡ value tt
+    → (i x w : ℕ) → 1 ≤ i → i ≤ S .n → HoldsKey (S .group) ys i x → w < S .group .q
+    → (writeShareIn S d i (lineY S d ys f ws i) x w 32 ≡ value tt)
+    × (judgeShareIn S d i (entry ys i) (lineY S d ys f ws i) (writtenShare S d i (lineY S d ys f ws i) x w)
+    ≡ value (record { 0 = powerOfH (S .group) (valueAt (S .group .q) f i) }))
+
+-- and such shares of t or more members recover the dealing's secret
 abbrev pub WrittenRecovered : Type 0
 WrittenRecovered =
-    (R : Round) (d : ℕ) (ys cs ws : List ℕ) → writeDealingOutcome R d ys cs ws (32 * R .n) ≡ value tt
-    → (x : ℕ → ℕ) (ms : List ℕ) → Quorum R ms
-    → All (λ i. (1 ≤ x i) × (x i < groupIn R .q) × (entry ys i ≡ keyOf (groupIn R) (x i))) ms
-    → recoveryOutcome R ms (map (λ i. shareOf (groupIn R) (YIn (writtenDealing R d ys cs ws) i) (x i)) ms)
-    ≡ value (record { 0 = pow (groupIn R .p) (groupIn R .h .0) (secretOf R cs) })
+    (S : Setting) → ProperSetting S → (d : ℕ) (ys f ws : List ℕ) → writeDealingIn S d ys f ws (32 * S .n) ≡ value tt
+    → (x : ℕ → ℕ) (ms : List ℕ) → Quorum S ms → All (λ i. HoldsKey (S .group) ys i (x i)) ms
+    → recoveryIn S ms (map (λ i. shareOf (S .group) (lineY S d ys f ws i) (x i)) ms) ≡ value (record { 0 = powerOfH (S .group) (secretOf S f) })

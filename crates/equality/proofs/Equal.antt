@@ -4,22 +4,23 @@ use mathlib.Core.Bool.{true}
 use mathlib.Core.List.{List, [], _∷_}
 use Prim.Native.Nat.{ℕ, _<_}
 use native.Mathlib.Omega.{arith}
-use borrow.Author.Tests.{eqb-true, eq-eqb}
-use lib.Dec.{eqb}
-use Rattle.words.specs.Checks.{value}
-use Rattle.words.proofs.Tests.{and-true, true-and, all-true, true-all}
-use Rattle.words.proofs.Checks.{value-exactly}
+use Rattle.words.specs.Checks.{Check, _unless_, value, refused}
+use Rattle.words.proofs.Tests.{equal-true, true-equal, all-true, true-all}
+use Rattle.words.proofs.Checks.{value-met, value-exactly}
+use Rattle.words.proofs.Stages.{rest-outcome, given-refused, given-value}
 use Rattle.field.specs.Residue.{add, mul, neg, sub}
 use Rattle.field.proofs.Modular.{add-comm, add-assoc, add-neg, mul-comm, mul-one, sub-add-neg, sub-below}
 use Rattle.group.specs.Power.{pow}
-use Rattle.group.specs.Table.{groupOf}
+use Rattle.group.specs.Table.{isGroup, groupOf, groupOutcomeOf, groupOutcome}
 use Rattle.group.specs.Element.{isElement, isExponent, Proper}
 use Rattle.group.specs.declared.Group.{Group}
+use Rattle.group.specs.declared.GroupAnswer.{GroupAnswer}
+use Rattle.group.specs.declared.GroupAnswer.the-variants.{Value, Refused}
 use Rattle.group.proofs.Powers.{pow-below, pow-none}
 use Rattle.group.proofs.Elements.{exponent-true, true-exponent, power-element, power-of-sum, power-of-product}
 use Rattle.group.proofs.Table.{table-proper}
-use Rattle.equality.specs.Equality.{announced, response, equalityChecks, equalityOutcome}
-use Rattle.equality.specs.Claims.{Holds, EqualityExactly, EqualityComplete, proofOf}
+use Rattle.equality.specs.Equality.{announced, response, equalityChecks, equalityIn, equalityOutcome}
+use Rattle.equality.specs.Claims.{Holds, EqualityExactly, EqualityComplete, EqualityByNumber, proofOf}
 use Rattle.equality.specs.declared.Equality.{Equality}
 
 -- a difference and what was taken away
@@ -46,48 +47,42 @@ module _ (G : Group) (P : Proper G) where
       ∙ ap (mul (G .p) (pow (G .p) b w)) (pow-none (G .p) b (P .prime-p .above-one))
       ∙ mul-one (G .p) (pow (G .p) b w) (pow-below (G .p) b w (omega (arith, P .prime-p .above-one)))
 
-module _ (k : ℕ) (E : Equality) where
+module _ (G : Group) (E : Equality) where
   abbrev elements : List ℕ
   elements = E .b1 .0 ∷ E .x1 .0 ∷ E .b2 .0 ∷ E .x2 .0 ∷ E .a1 .0 ∷ E .a2 .0 ∷ []
 
   abbrev exponents : List ℕ
   exponents = E .c .0 ∷ E .r .0 ∷ []
 
-  accepted-holds : equalityOutcome k E ≡ value tt → Holds k E
-  unfolding equalityOutcome
+  accepted-holds : equalityIn G E ≡ value tt → Holds G E
+  unfolding equalityIn
   accepted-holds e =
-      let G : Group = groupOf k in
-      let m = value-exactly Unit (equalityChecks k E) tt .0 e in
-      let low = all-true (isExponent G) exponents (m .1 .1 .0) in
-      let s = and-true (eqb (E .a1 .0) (announced G (E .b1 .0) (E .x1 .0) (E .c .0) (E .r .0))) _ (m .1 .1 .1 .0) in
+      let m = value-exactly Unit (equalityChecks G E) tt .0 e in
+      let low = all-true (isExponent G) exponents (m .1 .0) in
+      let s = equal-true (E .a1 .0) _ (E .a2 .0) _ (m .1 .1 .0) in
       record {
-        group = m .0;
-        elements = all-true (isElement G) elements (m .1 .0);
+        elements = all-true (isElement G) elements (m .0);
         c-low = exponent-true G (E .c .0) (low .0);
         r-low = exponent-true G (E .r .0) (low .1 .0);
-        first = eqb-true _ _ (s .0);
-        second = eqb-true _ _ (s .1);
+        first = s .0;
+        second = s .1;
       }
 
-  holds-accepted : Holds k E → equalityOutcome k E ≡ value tt
-  unfolding equalityOutcome
+  holds-accepted : Holds G E → equalityIn G E ≡ value tt
+  unfolding equalityIn
   holds-accepted H =
-      let G : Group = groupOf k in
       let six = true-all (isElement G) elements (H .elements) in
       let seven = true-all (isExponent G) exponents (true-exponent G (E .c .0) (H .c-low), (true-exponent G (E .r .0) (H .r-low), tt)) in
-      let ten = true-and _ _ (eq-eqb _ _ (H .first)) (eq-eqb _ _ (H .second)) in
-      value-exactly Unit (equalityChecks k E) tt .1 (H .group, (six, (seven, (ten, tt))))
+      let ten = true-equal (E .a1 .0) _ (E .a2 .0) _ (H .first) (H .second) in
+      value-exactly Unit (equalityChecks G E) tt .1 (six, (seven, (ten, tt)))
 
 pub equality-exactly : EqualityExactly
-equality-exactly k E = (accepted-holds k E, holds-accepted k E)
+equality-exactly G E = (accepted-holds G E, holds-accepted G E)
 
 pub equality-complete : EqualityComplete
-equality-complete k b1 b2 e w c g m1 m2 l =
-    let G : Group = groupOf k in
-    let P : Proper G = table-proper k g in
-    holds-accepted k (proofOf k b1 b2 e w c)
+equality-complete G P b1 b2 e w c m1 m2 l =
+    holds-accepted G (proofOf G b1 b2 e w c)
     (record {
-      group = g;
       elements =
           (m1, (power-element G P b1 e m1, (m2, (power-element G P b2 e m2, (power-element G P b1 w m1, (power-element G P b2 w m2, tt))))));
       c-low = l;
@@ -95,3 +90,33 @@ equality-complete k b1 b2 e w c g m1 m2 l =
       first = sym (announced-back G P b1 w c e m1);
       second = sym (announced-back G P b2 w c e m2);
     })
+
+-- ---- by number
+abbrev groupChecks : ℕ → List Check
+groupChecks k = 1 unless isGroup k ∷ []
+
+module _ (k : ℕ) (E : Equality) where
+  accepted-group : equalityOutcome k E ≡ value tt → (isGroup k ≡ true) × Proper (groupOf k) × (equalityIn (groupOf k) E ≡ value tt)
+  unfolding equalityOutcome equalityIn
+  accepted-group e =
+      let g = value-met (1 unless isGroup k ∷ equalityChecks (groupOf k) E) tt tt e .0 .0 in
+      (g, table-proper k g, rest-outcome (groupChecks k) (equalityChecks (groupOf k) E) (g, tt) tt ∙ e)
+
+  group-accepted : isGroup k ≡ true → equalityIn (groupOf k) E ≡ value tt → equalityOutcome k E ≡ value tt
+  unfolding equalityOutcome equalityIn
+  group-accepted g e = sym (rest-outcome (groupChecks k) (equalityChecks (groupOf k) E) (g, tt) tt) ∙ e
+
+pub equality-by-number : EqualityByNumber
+equality-by-number k E = (accepted-group k E, λ w. group-accepted k E (w .0) (w .2))
+
+-- the same by the answer a of the function that looks the group up
+module _ (k : ℕ) (E : Equality) {a : GroupAnswer} (o : groupOutcomeOf a ≡ groupOutcome k) where
+  pub number-refused : {n : ℕ} → a ≡ Refused n → refused n ≡ equalityOutcome k E
+  unfolding equalityOutcome
+  number-refused f =
+      given-refused (groupChecks k) (groupOf k) (λ G. equalityChecks G E) {A = Unit} (λ G. tt) (sym o ∙ ap groupOutcomeOf f)
+
+  pub number-value : {G : Group} → a ≡ Value G → equalityIn G E ≡ equalityOutcome k E
+  unfolding equalityOutcome equalityIn
+  number-value f =
+      given-value (groupChecks k) (groupOf k) (λ G. equalityChecks G E) {A = Unit} (λ G. tt) (sym o ∙ ap groupOutcomeOf f)

@@ -26,13 +26,18 @@ equationsHold G E =
     eqb (E .a1 .0) (announced G (E .b1 .0) (E .x1 .0) (E .c .0) (E .r .0))
     && eqb (E .a2 .0) (announced G (E .b2 .0) (E .x2 .0) (E .c .0) (E .r .0))
 
-abbrev pub equalityChecks : ℕ → Equality → List Check
-equalityChecks k E =
-    1 unless isGroup k
-    ∷ 6 unless all (isElement (groupOf k)) (E .b1 .0 ∷ E .x1 .0 ∷ E .b2 .0 ∷ E .x2 .0 ∷ E .a1 .0 ∷ E .a2 .0 ∷ [])
-    ∷ 7 unless all (isExponent (groupOf k)) (E .c .0 ∷ E .r .0 ∷ [])
-    ∷ 10 unless equationsHold (groupOf k) E
+-- ---- one proof judged
+-- in a group
+abbrev pub equalityChecks : Group → Equality → List Check
+equalityChecks G E =
+    6 unless all (isElement G) (E .b1 .0 ∷ E .x1 .0 ∷ E .b2 .0 ∷ E .x2 .0 ∷ E .a1 .0 ∷ E .a2 .0 ∷ [])
+    ∷ 7 unless all (isExponent G) (E .c .0 ∷ E .r .0 ∷ [])
+    ∷ 10 unless equationsHold G E
     ∷ []
 
+unfoldable pub equalityIn : Group → Equality → Outcome (Unit {0})
+equalityIn G E = outcome (equalityChecks G E) tt
+
+-- in the group of number k
 unfoldable pub equalityOutcome : ℕ → Equality → Outcome (Unit {0})
-equalityOutcome k E = outcome (equalityChecks k E) tt
+equalityOutcome k E = outcome (1 unless isGroup k ∷ equalityChecks (groupOf k) E) tt

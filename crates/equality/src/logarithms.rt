@@ -2,7 +2,7 @@
 ghost use mathlib.Core.Path.{_≡_};
 ghost use Prim.Native.Nat.{_<_};
 ghost use Rattle.sharing.specs.Answer.{checkOutcomeOf};
-ghost use Rattle.equality.specs.Equality.{announced, response, equationsHold, equalityOutcome};
+ghost use Rattle.equality.specs.Equality.{announced, response, equationsHold, equalityIn, equalityOutcome};
 use crate::Equality;
 use group::Element;
 use group::Exponent;
@@ -12,6 +12,7 @@ use group::all_elements;
 use group::all_exponents;
 use group::group_of;
 use sharing::CheckAnswer;
+use sharing::passed_if;
 
 // The announcement that the challenge c and the response r give for the element x to the base b.
 // Internal: callers ensure that p is above 1.
@@ -41,22 +42,27 @@ fn equations_hold(gr: Group, e: Equality) -> bool
         && e.a2.0 == announced(gr, e.b2, e.x2, e.c, e.r).0
 }
 
-// One proof with lent figures. Refused: 1 no group of that number; 6 a figure that is no element; 7 c or r not below q;
-// 10 an equation for a1 or a2 fails.
-pub fn equality_check(number: u32, e: Equality) -> CheckAnswer
-    ensures { λ r. ⌜ checkOutcomeOf r ≡ equalityOutcome number e ⌝ }
+// One proof with lent figures in a group: 6, 7 and 10. Internal: callers ensure that p is above 1.
+pub fn equality_in(gr: Group, e: Equality) -> CheckAnswer
+    requires { ⌜ 1 < gr .p ⌝ }
+    ensures { λ r. ⌜ checkOutcomeOf r ≡ equalityIn gr e ⌝ }
 {
-    let GroupAnswer::Value(gr) = group_of(number) else {
-        return CheckAnswer::Refused(1);
-    };
     if !all_elements(gr, &[e.b1.0, e.x1.0, e.b2.0, e.x2.0, e.a1.0, e.a2.0]) {
         return CheckAnswer::Refused(6);
     }
     if !all_exponents(gr, &[e.c.0, e.r.0]) {
         return CheckAnswer::Refused(7);
     }
-    if !equations_hold(gr, e) {
-        return CheckAnswer::Refused(10);
+    passed_if(equations_hold(gr, e), 10)
+}
+
+// One proof with lent figures. Refused: 1 no group of that number; 6 a figure that is no element; 7 c or r not below q;
+// 10 an equation for a1 or a2 fails.
+pub fn equality_check(number: u32, e: Equality) -> CheckAnswer
+    ensures { λ r. ⌜ checkOutcomeOf r ≡ equalityOutcome number e ⌝ }
+{
+    match group_of(number) {
+        GroupAnswer::Refused(k) => CheckAnswer::Refused(k),
+        GroupAnswer::Value(gr) => equality_in(gr, e),
     }
-    CheckAnswer::Passed
 }

@@ -1,2 +1,2 @@
--- The proof of the table in specs/Figures.antt.
-pub mod Table
+-- The proof of the table in specs/ByHand.antt.
+pub mod ByHand

@@ -1,2 +1,2 @@
 -- The scope paper's figures by hand as one table.
-pub mod Figures
+pub mod ByHand

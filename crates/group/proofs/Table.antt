@@ -42,9 +42,9 @@ proper G i j k P Q l g h =
     }
 
 -- what holds of the groups of the table holds of the group of any number
-each : (P : Group → Type 0) → P (groupOf 1) → P (groupOf 2) → P (groupOf 3) → (k : ℕ) → P (groupOf k)
+each-group : (P : Group → Type 0) → P (groupOf 1) → P (groupOf 2) → P (groupOf 3) → (k : ℕ) → P (groupOf k)
 unfolding groupOf
-each P a b c k = go (eqb k 1) (eqb k 2)
+each-group P a b c k = go (eqb k 1) (eqb k 2)
   where
     go : (s t : Bool) → P (pick s (groupOf 1) (pick t (groupOf 2) (groupOf 3)))
     go true t = a
@@ -54,7 +54,7 @@ each P a b c k = go (eqb k 1) (eqb k 2)
 pub table-proper : TableProper
 unfolding groupOf
 table-proper k e =
-    each Proper
+    each-group Proper
     (proper (groupOf 1) 1 1 4 tt tt (lit< tt) refl refl)
     (proper (groupOf 2) 22 15 10 tt tt (lit< tt) refl refl)
     (proper (groupOf 3) 32767 23170 31 tt tt (lit< tt) refl refl)
@@ -63,8 +63,8 @@ table-proper k e =
 -- p and q are words, and with them each element and each exponent
 pub table-below : (k : ℕ) → isGroup k ≡ true → groupOf k .p < 2 ^ 32
 unfolding groupOf
-table-below k e = each (λ G. G .p < 2 ^ 32) (lit< tt) (lit< tt) (lit< tt) k
+table-below k e = each-group (λ G. G .p < 2 ^ 32) (lit< tt) (lit< tt) (lit< tt) k
 
 pub order-below : (k : ℕ) → isGroup k ≡ true → groupOf k .q < 2 ^ 32
 unfolding groupOf
-order-below k e = each (λ G. G .q < 2 ^ 32) (lit< tt) (lit< tt) (lit< tt) k
+order-below k e = each-group (λ G. G .q < 2 ^ 32) (lit< tt) (lit< tt) (lit< tt) k

@@ -8,22 +8,23 @@ use crate::Element;
 use crate::Exponent;
 use crate::Group;
 
-// b to the power e modulo p: 1 at exponent 0, and otherwise from the power at half the exponent.
+// b to the power e modulo p: 1 at exponent 0, and otherwise from the power at half the exponent. The power is handed back as a number,
+// which the recursion keeps in a register; callers wrap it.
 // Internal: callers ensure that p is above 1.
-pub(crate) fn raise(p: u32, b: Element, e: Exponent) -> Element
+pub(crate) fn raise(p: u32, b: Element, e: Exponent) -> u32
     requires { ⌜ 1 < p ⌝ }
-    ensures { λ r. ⌜ r .0 ≡ pow p (b .0) (e .0) ⌝ }
+    ensures { λ r. ⌜ r ≡ pow p (b .0) (e .0) ⌝ }
 {
     let n = e.0;
     if n == 0 {
-        return Element(1);
+        return 1;
     }
     let half = raise(p, b, Exponent(n / 2));
-    let square = field::mul(p, half.0, half.0);
+    let square = field::mul(p, half, half);
     if n % 2 == 0 {
-        return Element(square);
+        return square;
     }
-    Element(field::mul(p, square, b.0))
+    field::mul(p, square, b.0)
 }
 
 impl Element {
@@ -40,7 +41,7 @@ impl Element {
         requires { ⌜ 1 < gr .p ⌝ }
         ensures { λ r. ⌜ r .0 ≡ pow (gr .p) (self .0) (e .0) ⌝ }
     {
-        raise(gr.p, self, e)
+        Element(raise(gr.p, self, e))
     }
 }
 

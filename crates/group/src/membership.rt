@@ -19,7 +19,7 @@ pub fn is_element(gr: Group, v: Element) -> bool
     if x >= p {
         return false;
     }
-    raise(p, v, Exponent(gr.q)).0 == 1
+    raise(p, v, Exponent(gr.q)) == 1
 }
 
 // Whether e is below q.

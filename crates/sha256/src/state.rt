@@ -59,7 +59,7 @@ impl State {
         self
     }
 
-    // The 64 rounds over the schedule w.
+    // The 64 rounds over the schedule w, two to a turn, which spares moves between registers.
     fn rounds(mut self, w: &[u32; 64]) -> Self
         ensures { λ r. ⌜ r ≡ rounds (now (w .entry)) self 64 ⌝ }
     {
@@ -67,7 +67,8 @@ impl State {
         let mut t: usize = 0;
         while t < 64 {
             self = self.round(k[t], w[t]);
-            t += 1;
+            self = self.round(k[t + 1], w[t + 1]);
+            t += 2;
         }
         self
     }

@@ -9,8 +9,9 @@ use lib.Seq.{drop-length}
 use Rattle.words.proofs.Lists.{drop-back, map-length, map-at, up-length, up-at}
 use Rattle.field.specs.Residue.{mul}
 use Rattle.group.specs.Power.{pow}
-use Rattle.sharing.specs.Round.{members}
-use Rattle.sharing.specs.Weights.{productOver, weightAt, weightsOf, powers}
+use Rattle.sharing.specs.Setting.{members}
+use Rattle.sharing.specs.Weights.{productOver, weightAt, weightsOf, powersProduct}
+use Rattle.sharing.specs.declared.Setting.{Setting}
 use Rattle.sharing.proofs.Products.{self, other}
 
 pub member-at : (n j : ℕ) → 0 < j → j ≤ n → getD (members n) (j - 1) 0 ≡ j
@@ -30,24 +31,24 @@ module _ (q : ℕ) (f : ℕ → ℕ) (i : ℕ) (l : List ℕ) (k : ℕ) where
 
 -- ---- the product of the powers of two lists of one length from index k on
 module _ (p : ℕ) (vs es : List ℕ) (k : ℕ) where
-  pub powers-start : k ≡ length vs → 1 ≡ powers p (drop k vs) (drop k es)
-  unfolding powers
+  pub powers-start : k ≡ length vs → 1 ≡ powersProduct p (drop k vs) (drop k es)
+  unfolding powersProduct
   powers-start e = rw (e, drop-length vs)
 
   pub powers-next : 0 < k → k ≤ length vs → length es ≡ length vs
-      → mul p (pow p (getD vs (k - 1) 0) (getD es (k - 1) 0)) (powers p (drop k vs) (drop k es)) ≡ powers p (drop (k - 1) vs) (drop (k - 1) es)
-  unfolding powers
+      → mul p (pow p (getD vs (k - 1) 0) (getD es (k - 1) 0)) (powersProduct p (drop k vs) (drop k es)) ≡ powersProduct p (drop (k - 1) vs) (drop (k - 1) es)
+  unfolding powersProduct
   powers-next h b s =
       let c : k ≤ length es = omega arith in
       rw (drop-back vs k 0 h b, drop-back es k 0 h c)
 
 -- ---- the weights
-module _ (q n : ℕ) (cs : List ℕ) where
-  pub weights-length : length (weightsOf q n cs) ≡ n
+module _ (S : Setting) (ds : List ℕ) where
+  pub weights-length : length (weightsOf S ds) ≡ S .n
   unfolding weightsOf
-  weights-length = map-length (weightAt q n cs) (members n) ∙ up-length 1 n
+  weights-length = map-length (weightAt S ds) (members (S .n)) ∙ up-length 1 (S .n)
 
-  pub weights-at : (j : ℕ) → 0 < j → j ≤ n → getD (weightsOf q n cs) (j - 1) 0 ≡ weightAt q n cs j
+  pub weights-at : (j : ℕ) → 0 < j → j ≤ S .n → getD (weightsOf S ds) (j - 1) 0 ≡ weightAt S ds j
   unfolding weightsOf
   weights-at j h l =
-      map-at (weightAt q n cs) (members n) (j - 1) 0 0 (omega (arith, up-length 1 n)) ∙ ap (weightAt q n cs) (member-at n j h l)
+      map-at (weightAt S ds) (members (S .n)) (j - 1) 0 0 (omega (arith, up-length 1 (S .n))) ∙ ap (weightAt S ds) (member-at (S .n) j h l)

@@ -11,8 +11,10 @@ use Rattle.words.proofs.Lists.{All-each, up-distinct}
 use Rattle.field.specs.Residue.{add, mul, sub, inv, residueOps}
 use Rattle.field.specs.Polynomial.{dot, gaps, weights, divided, products, ratios, lagrange, atZero, valueAt}
 use Rattle.field.proofs.Modular.{mul-comm, mul-assoc, mul-one, sub-add-neg}
-use Rattle.sharing.specs.Round.{members}
+use Rattle.group.specs.declared.Group.{Group}
+use Rattle.sharing.specs.Setting.{members}
 use Rattle.sharing.specs.Weights.{productOver, gapsAt, weightAt, weightsOf, lagrangeAt}
+use Rattle.sharing.specs.declared.Setting.{Setting}
 use Rattle.sharing.proofs.Products.{self, other, others-below}
 
 -- x is none of the list
@@ -31,12 +33,12 @@ module _ (q : ℕ) (above : 1 < q) (f : ℕ → ℕ) (x : ℕ) where
 
   others-whole : (before l : List ℕ) → others (whole before l) ≡ mul q (others before) (others l)
   others-whole [] l = sym (mul-comm q 1 (others l) ∙ mul-one q (others l) (others-below q f x above l))
-  others-whole (y ∷ before) l = others-whole before (y ∷ l) ∙ by (eqb x y)
+  others-whole (y ∷ before) l = others-whole before (y ∷ l) ∙ split (eqb x y)
     where
-      by : (b : Bool) → mul q (others before) (pick b (others l) (mul q (f y) (others l)))
+      split : (b : Bool) → mul q (others before) (pick b (others l) (mul q (f y) (others l)))
           ≡ mul q (pick b (others before) (mul q (f y) (others before))) (others l)
-      by true = refl
-      by false = sym (mul-assoc q (others before) (f y) (others l)) ∙ ap (λ v. mul q v (others l)) (mul-comm q (others before) (f y))
+      split true = refl
+      split false = sym (mul-assoc q (others before) (f y) (others l)) ∙ ap (λ v. mul q v (others l)) (mul-comm q (others before) (f y))
 
   -- those before and those after
   others-split : (before after : List ℕ) → mul q (others before) (others after) ≡ others (whole before (x ∷ after))
@@ -73,8 +75,7 @@ module _ (q : ℕ) (above : 1 < q) where
       λ j. inv q (e j) ∷ weights-others (x ∷ before) xs (d .1) (fresh-next x before xs (d .0) (h .1)) j
 
   lagrange-others : (before xs : List ℕ) → Distinct xs → Fresh before xs
-      → lagrange (residueOps q) before xs ≡ map (lagrangeAt q (whole before xs)) xs
-  unfolding lagrangeAt
+      → lagrange (residueOps q) before xs ≡ map (λ x. productOver q (ratio x) x (whole before xs)) xs
   lagrange-others before [] d h = refl
   lagrange-others before (x ∷ xs) d h =
       let e = (λ j. mul q (ratios-others x before (h .0) j) (ratios-others x xs (d .0) j)) ∙ others-split q above (ratio x) x before xs in
@@ -89,13 +90,20 @@ module _ (q : ℕ) (above : 1 < q) where
   dot-products w f (y ∷ ys) (x ∷ xs) =
       λ j. add q ((ap (mul q y) (mul-comm q (w x) (f x)) ∙ sym (mul-assoc q y (f x) (w x))) j) (dot-products w f ys xs j)
 
-  pub weights-divided : (n : ℕ) (es ds : List ℕ)
-      → dot (residueOps q) es (weightsOf q n ds) ≡ divided (residueOps q) (members n) (products (residueOps q) es (map (valueAt q ds) (members n)))
-  unfolding weightsOf weightAt gapsAt
-  weights-divided n es ds =
-      dot-products (λ i. inv q (productOver q (sub q i) i (members n))) (valueAt q ds) es (members n)
-      ∙ ap (dot (residueOps q) (products (residueOps q) es (map (valueAt q ds) (members n))))
-      (sym (weights-others [] (members n) (up-distinct 1 n) (All-each (members n) (λ x. tt))))
+-- ---- in a setting and in a group
+pub weights-divided : (S : Setting) → 1 < S .group .q → (es ds : List ℕ)
+    → dot (residueOps (S .group .q)) es (weightsOf S ds)
+    ≡ divided (residueOps (S .group .q)) (members (S .n)) (products (residueOps (S .group .q)) es (map (valueAt (S .group .q) ds) (members (S .n))))
+unfolding weightsOf weightAt gapsAt
+weights-divided S above es ds =
+    let q : ℕ = S .group .q in
+    let ms : List ℕ = members (S .n) in
+    dot-products q above (λ i. inv q (productOver q (sub q i) i ms)) (valueAt q ds) es ms
+    ∙ ap (dot (residueOps q) (products (residueOps q) es (map (valueAt q ds) ms)))
+    (sym (weights-others q above [] ms (up-distinct 1 (S .n)) (All-each ms (λ x. tt))))
 
-  pub lagrange-at-zero : (ms ys : List ℕ) → Distinct ms → dot (residueOps q) ys (map (lagrangeAt q ms) ms) ≡ atZero (residueOps q) ms ys
-  lagrange-at-zero ms ys d = ap (dot (residueOps q) ys) (sym (lagrange-others [] ms d (All-each ms (λ x. tt))))
+pub lagrange-at-zero : (G : Group) → 1 < G .q → (ms ys : List ℕ) → Distinct ms
+    → dot (residueOps (G .q)) ys (map (lagrangeAt G ms) ms) ≡ atZero (residueOps (G .q)) ms ys
+unfolding lagrangeAt
+lagrange-at-zero G above ms ys d =
+    ap (dot (residueOps (G .q)) ys) (sym (lagrange-others (G .q) above [] ms d (All-each ms (λ x. tt))))

@@ -11,42 +11,41 @@ use native.Mathlib.Omega.{arith}
 use lib.ListN.{length, getD, replicate, length-replicate}
 use Rattle.words.specs.Choice.{pick}
 use Rattle.words.specs.Lists.{Below}
-use Rattle.words.specs.Checks.{Outcome, value, refused, Met}
-use Rattle.words.proofs.Tests.{false-true}
+use Rattle.words.specs.Checks.{isValue}
+use Rattle.words.proofs.Checks.{is-value, not-value}
 use Rattle.field.specs.Residue.{residueOps}
 use Rattle.field.specs.Polynomial.{dot}
-use Rattle.sharing.specs.Round.{groupIn, roundChecks}
-use Rattle.sharing.specs.Answer.{degreeOutcome}
-use Rattle.sharing.specs.Carried.{Carries, Commitments, CheckPolynomial, Passes, isValue, unitAt, lowest, place, AgreeOff, sumAt, sumsAt}
+use Rattle.sharing.specs.Setting.{ProperSetting}
+use Rattle.sharing.specs.Answer.{degreeIn}
+use Rattle.sharing.specs.Carried.{Carries, Commitments, CheckPolynomial, Passes, unitAt, unitOf, lowest, place, AgreeOff, sumAt, sumsAt}
 use Rattle.sharing.specs.Claims.{OneValue}
-use Rattle.sharing.specs.declared.Round.{Round}
-use Rattle.sharing.proofs.Linear.{form-unit, form-once}
+use Rattle.sharing.specs.declared.Setting.{Setting}
+use Rattle.sharing.proofs.Linear.{form-unit, form-one-value}
 use Rattle.sharing.proofs.Generators.{Exponents}
-use Rattle.sharing.proofs.Rounds.{ready}
 use Rattle.sharing.proofs.Degree.{passed-polynomial, refused-nine, sums-length, sums-at, sums-all, sum-low, passes-exactly}
 use Rattle.sharing.proofs.Carried.{sums-carried}
 
 -- ---- the lowest number at which a test is false
-record Lowest (f : ℕ → Bool) (k m r : ℕ) : Type 0 where
+record Lowest (test : ℕ → Bool) (k m r : ℕ) : Type 0 where
   from : k ≤ r
-  lower : (j : ℕ) → k ≤ j → j < r → f j ≡ true
-  here : (r ≡ k + m) ⊎ ((r < k + m) × (f r ≡ false))
+  lower : (j : ℕ) → k ≤ j → j < r → test j ≡ true
+  here : (r ≡ k + m) ⊎ ((r < k + m) × (test r ≡ false))
 
-lowest-is : (f : ℕ → Bool) (k m : ℕ) → Lowest f k m (lowest f k m)
-lowest-is f k zero = record { from = omega arith; lower = λ j h l. absurd (omega arith); here = inl (omega arith) }
-lowest-is f k (suc m) = by (f k) refl (lowest-is f (suc k) m)
+is-lowest : (test : ℕ → Bool) (k m : ℕ) → Lowest test k m (lowest test k m)
+is-lowest test k zero = record { from = omega arith; lower = λ j h l. absurd (omega arith); here = inl (omega arith) }
+is-lowest test k (suc m) = split (test k) refl (is-lowest test (suc k) m)
   where
-    by : (b : Bool) → f k ≡ b → Lowest f (suc k) m (lowest f (suc k) m) → Lowest f k (suc m) (pick b (lowest f (suc k) m) k)
-    by true e r =
+    split : (b : Bool) → test k ≡ b → Lowest test (suc k) m (lowest test (suc k) m) → Lowest test k (suc m) (pick b (lowest test (suc k) m) k)
+    split true e r =
         record {
           from = omega (arith, r .from);
           lower = λ j h l. elim (decLe j k) [
-            | yes w ↦ let s : j ≡ k = omega arith in ap f s ∙ e
+            | yes w ↦ let s : j ≡ k = omega arith in ap test s ∙ e
             | no w ↦ r .lower j (omega arith) l
           ];
           here = ⊎-elim (λ w. inl (omega arith)) (λ w. inr (omega arith, w .1)) (r .here);
         }
-    by false e r = record { from = omega arith; lower = λ j h l. absurd (omega arith); here = inr (omega arith, e) }
+    split false e r = record { from = omega arith; lower = λ j h l. absurd (omega arith); here = inr (omega arith, e) }
 
 -- ---- units are check polynomials
 zeros-low : (q m : ℕ) → 1 < q → Below q (replicate m 0)
@@ -63,58 +62,47 @@ unit-length k zero = refl
 unit-length zero (suc m) = ap suc (length-replicate m 0)
 unit-length (suc k) (suc m) = ap suc (unit-length k m)
 
--- ---- a value or none
-pub is-value : (o : Outcome Unit) → isValue o ≡ true → o ≡ value tt
-is-value (value a) e = refl
-is-value (refused k) e = absurd (false-true e)
+pub unit-polynomial : (S : Setting) → ProperSetting S → (k : ℕ) → CheckPolynomial S (unitOf S k)
+unit-polynomial S Y k =
+    record { size = unit-length k (S .n - S .t); low = unit-low (S .group .q) k (S .n - S .t) (Y .proper .prime-q .above-one) }
 
-not-value : (o : Outcome Unit) → isValue o ≡ false → o ≡ value tt → ⊥
-not-value o e f = false-true (sym e ∙ ap isValue f)
-
-module _ (R : Round) (m : Met (roundChecks R)) (vs es : List ℕ) (C : Commitments R vs) (E : Exponents (groupIn R) (groupIn R .g .0) vs es) where
-  abbrev unit : ℕ → List ℕ
-  unit k = unitAt k (R .n - R .t)
-
-  pub unit-polynomial : (k : ℕ) → CheckPolynomial R (unit k)
-  unit-polynomial k =
-      record { size = unit-length k (R .n - R .t); low = unit-low (groupIn R .q) k (R .n - R .t) (ready R m .proper .prime-q .above-one) }
-
-  unit-exactly : (k : ℕ) → k < R .n - R .t → Passes R vs (unit k) ↔ (sumAt R es k ≡ 0)
+module _ (S : Setting) (Y : ProperSetting S) (vs es : List ℕ) (C : Commitments S vs) (E : Exponents (S .group) (S .group .g .0) vs es) where
+  unit-exactly : (k : ℕ) → k < S .n - S .t → Passes S vs (unitOf S k) ↔ (sumAt S es k ≡ 0)
   unit-exactly k h =
-      let p = passes-exactly R m vs es C E (unit k) (unit-polynomial k) in
-      let s : dot (residueOps (groupIn R .q)) (unit k) (sumsAt R es) ≡ sumAt R es k =
-      form-unit (groupIn R .q) (ready R m .proper .prime-q) k (R .n - R .t) (sumsAt R es) (sums-length R es) h
-      (sums-all R es (λ z. z < groupIn R .q) (λ j l. sum-low R es (ready R m) j))
-      ∙ sums-at R es k h in
+      let p = passes-exactly S Y vs es C E (unitOf S k) (unit-polynomial S Y k) in
+      let s : dot (residueOps (S .group .q)) (unitOf S k) (sumsAt S es) ≡ sumAt S es k =
+      form-unit (S .group .q) (Y .proper .prime-q) k (S .n - S .t) (sumsAt S es) (sums-length S es) h
+      (sums-all S es (λ z. z < S .group .q) (λ j l. sum-low S es Y j))
+      ∙ sums-at S es k h in
       (λ e. sym s ∙ p .0 e, λ z. p .1 (s ∙ z))
 
   -- one value passes at a place whose unit does not
-  one-value : (k : ℕ) → k < R .n - R .t → (Passes R vs (unit k) → ⊥)
-      → (cs ds : List ℕ) → Passes R vs cs → Passes R vs ds → AgreeOff k cs ds → getD cs k 0 ≡ getD ds k 0
-  one-value k h n cs ds pc pd a =
-      let c = passed-polynomial R vs cs pc in
-      let d = passed-polynomial R vs ds pd in
-      let z : getD (sumsAt R es) k 0 % groupIn R .q ≡ sumAt R es k =
-      ap (λ z. z % groupIn R .q) (sums-at R es k h) ∙ mod-eq-of-lt (sum-low R es (ready R m) k) in
-      let nonzero : 0 < sumAt R es k = ⊎-elim (λ e. absurd (n (unit-exactly k h .1 e))) (λ p. p) (eq-zero-or-pos (sumAt R es k)) in
-      form-once (groupIn R .q) (ready R m .proper .prime-q) k cs ds (sumsAt R es) (c .size ∙ sym (d .size)) (omega (arith, d .size))
-      (c .low) (d .low) a (omega arith) (passes-exactly R m vs es C E cs c .0 pc) (passes-exactly R m vs es C E ds d .0 pd)
+  one-value : (k : ℕ) → k < S .n - S .t → (Passes S vs (unitOf S k) → ⊥)
+      → (ds₁ ds₂ : List ℕ) → Passes S vs ds₁ → Passes S vs ds₂ → AgreeOff k ds₁ ds₂ → getD ds₁ k 0 ≡ getD ds₂ k 0
+  one-value k h n ds₁ ds₂ p₁ p₂ a =
+      let D₁ = passed-polynomial S vs ds₁ p₁ in
+      let D₂ = passed-polynomial S vs ds₂ p₂ in
+      let z : getD (sumsAt S es) k 0 % S .group .q ≡ sumAt S es k =
+      ap (λ z. z % S .group .q) (sums-at S es k h) ∙ mod-eq-of-lt (sum-low S es Y k) in
+      let nonzero : 0 < sumAt S es k = ⊎-elim (λ e. absurd (n (unit-exactly k h .1 e))) (λ p. p) (eq-zero-or-pos (sumAt S es k)) in
+      form-one-value (S .group .q) (Y .proper .prime-q) k ds₁ ds₂ (sumsAt S es) (D₁ .size ∙ sym (D₂ .size)) (omega (arith, D₂ .size))
+      (D₁ .low) (D₂ .low) a (omega arith) (passes-exactly S Y vs es C E ds₁ D₁ .0 p₁) (passes-exactly S Y vs es C E ds₂ D₂ .0 p₂)
 
-  pub carried-or-one : ((cs : List ℕ) × Carries R cs vs) ⊎ OneValue R vs
+  pub carried-or-one : ((f : List ℕ) × Carries S f vs) ⊎ OneValue S vs
   unfolding place
   carried-or-one =
-      let r = lowest-is (λ k. isValue (degreeOutcome R vs (unit k))) 0 (R .n - R .t) in
-      let lower : (k : ℕ) → k < place R vs → Passes R vs (unit k) =
-      λ k h. is-value (degreeOutcome R vs (unit k)) (r .lower k (omega arith) h) in
+      let r = is-lowest (λ k. isValue (degreeIn S vs (unitOf S k))) 0 (S .n - S .t) in
+      let lower : (k : ℕ) → k < place S vs → Passes S vs (unitOf S k) =
+      λ k h. is-value (degreeIn S vs (unitOf S k)) (r .lower k (omega arith) h) .1 in
       ⊎-elim
-      (λ w. inl (sums-carried R m vs es C E (λ k h. unit-exactly k h .0 (lower k (omega (arith, w))))))
+      (λ w. inl (sums-carried S Y vs es C E (λ k h. unit-exactly k h .0 (lower k (omega (arith, w))))))
       (λ w.
-      let n = not-value (degreeOutcome R vs (unit (place R vs))) (w .1) in
-      let in-range : place R vs < R .n - R .t = omega (arith, w .0) in
+      let n : Passes S vs (unitOf S (place S vs)) → ⊥ = not-value (w .1) in
+      let in-range : place S vs < S .n - S .t = omega (arith, w .0) in
       inr (record {
         within = in-range;
-        unit-refused = refused-nine R vs (unit (place R vs)) m C (unit-polynomial (place R vs)) n;
+        unit-refused = refused-nine S vs (unitOf S (place S vs)) C (unit-polynomial S Y (place S vs)) n;
         lower-pass = lower;
-        one-value = one-value (place R vs) in-range n;
+        one-value = one-value (place S vs) in-range n;
       }))
       (r .here)

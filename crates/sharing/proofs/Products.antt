@@ -16,8 +16,10 @@ use Rattle.field.specs.Residue.{mul, sub, inv}
 use Rattle.field.specs.Prime.{Prime}
 use Rattle.field.proofs.Modular.{mul-assoc, mul-comm, mul-one, mul-below, sub-below, sub-pos}
 use Rattle.field.proofs.Inverses.{positive, euclid, mul-inv, inv-unique}
-use Rattle.sharing.specs.Round.{members}
+use Rattle.group.specs.declared.Group.{Group}
+use Rattle.sharing.specs.Setting.{members}
 use Rattle.sharing.specs.Weights.{productOver, gapsAt, lagrangeAt}
+use Rattle.sharing.specs.declared.Setting.{Setting}
 
 -- ---- one factor
 module _ (q : ℕ) (f : ℕ → ℕ) (i : ℕ) where
@@ -99,17 +101,20 @@ module _ (q : ℕ) (P : Prime q) where
   differences : (i : ℕ) (l : List ℕ) → i < q → Below q l → All (λ j. (i ≡ j → ⊥) → Nonzero q (sub q j i)) l
   differences i l h b = All-to l (λ j s n. (sub-pos q j i s h (λ e. n (sym e)), sub-below q j i (positive q P))) b
 
-  pub gaps-nonzero : (n i : ℕ) → n < q → i < q → Nonzero q (gapsAt q n i)
-  unfolding gapsAt
-  gaps-nonzero n i l h =
-      others-nonzero i (sub q i) (members n)
-      (All-to (members n) (λ j s d. (sub-pos q i j h (s .1) d, sub-below q i j (positive q P))) (up-within 1 n q (omega arith)))
-
-  -- the product of the differences from i, and the quotient by it of the product of the numbers
+  -- the product of the differences from i is not 0
   pub differences-nonzero : (i : ℕ) (l : List ℕ) → i < q → Below q l → Nonzero q (productOver q (λ j. sub q j i) i l)
   differences-nonzero i l h b = others-nonzero i (λ j. sub q j i) l (differences i l h b)
 
-  pub lagrange-quotient : (i : ℕ) (l : List ℕ) → i < q → Below q l
-      → mul q (productOver q (λ j. j) i l) (inv q (productOver q (λ j. sub q j i) i l)) ≡ lagrangeAt q l i
-  unfolding lagrangeAt
-  lagrange-quotient i l h b = quotient i (λ j. j) (λ j. sub q j i) l (differences i l h b)
+-- ---- in a setting and in a group
+pub gaps-nonzero : (S : Setting) → Prime (S .group .q) → (i : ℕ) → S .n < S .group .q → i < S .group .q → Nonzero (S .group .q) (gapsAt S i)
+unfolding gapsAt
+gaps-nonzero S P i l h =
+    let q : ℕ = S .group .q in
+    others-nonzero q P i (sub q i) (members (S .n))
+    (All-to (members (S .n)) (λ j s d. (sub-pos q i j h (s .1) d, sub-below q i j (positive q P))) (up-within 1 (S .n) q (omega arith)))
+
+-- Lagrange's coefficient is the quotient of the product of the numbers by that of the differences
+pub lagrange-quotient : (G : Group) → Prime (G .q) → (i : ℕ) (l : List ℕ) → i < G .q → Below (G .q) l
+    → mul (G .q) (productOver (G .q) (λ j. j) i l) (inv (G .q) (productOver (G .q) (λ j. sub (G .q) j i) i l)) ≡ lagrangeAt G l i
+unfolding lagrangeAt
+lagrange-quotient G P i l h b = quotient (G .q) P i (λ j. j) (λ j. sub (G .q) j i) l (differences (G .q) P i l h b)

@@ -1,69 +1,137 @@
--- What the first checks of every operation settle of a round, and its members as nodes.
-use mathlib.Core.Path.{_≡_}
-use mathlib.Core.List.{List}
-use Prim.Native.Nat.{ℕ, _+_, _≤_, _<_}
+-- What the checks of a round settle: its setting is proper, and an operation over the round does what it does in the setting.
+-- Then quorums, and the members of a proper setting as nodes.
+use mathlib.Core.Path.{_≡_, sym, ap, _∙_, subst}
+use mathlib.Core.Bool.{true}
+use mathlib.Core.List.{List, _++_}
+use mathlib.Core.Logic.{_↔_}
+use Prim.Native.Nat.{ℕ, _+_, _≤_}
 use native.Mathlib.Omega.{arith}
-use borrow.Author.Tests.{ltb-true, leb-true}
+use borrow.Author.Tests.{ltb-true, leb-true, le-leb}
 use lib.ListN.{length}
 use lib.Dec.{leb, ltb}
-use Rattle.words.specs.Lists.{All, Below}
-use Rattle.words.specs.Checks.{Met}
+use Rattle.words.specs.Lists.{All, Below, all, noneTwice}
+use Rattle.words.specs.Checks.{Check, value, refused, outcome, Met, ifMet}
 use Rattle.words.proofs.Lists.{All-to, up-length, up-within, up-distinct}
-use Rattle.words.proofs.Tests.{and-true}
+use Rattle.words.proofs.Tests.{and-true, true-and, all-true, true-all, true-distinct}
+use Rattle.words.proofs.Checks.{value-met}
+use Rattle.words.proofs.Stages.{met-both, rest-outcome, rest-choice, given-refused, given-value, given-kept, given-choice}
 use Rattle.field.specs.Claims.{Nodes}
-use Rattle.group.specs.Element.{Proper}
-use Rattle.group.proofs.Table.{table-proper}
-use Rattle.sharing.specs.Round.{isRound, groupIn, roundChecks, members}
+use Rattle.group.specs.Table.{isGroup}
+use Rattle.group.proofs.Table.{table-proper, table-below, order-below}
+use Rattle.sharing.specs.Setting.{ProperSetting, settingIn, inRange, roundChecks, settingOutcomeOf, settingOutcome, judged, judgedElse, isMember, members}
+use Rattle.sharing.specs.Answer.{isQuorum}
 use Rattle.sharing.specs.Carried.{Quorum}
 use Rattle.sharing.specs.declared.Round.{Round}
+use Rattle.sharing.specs.declared.Setting.{Setting}
+use Rattle.sharing.specs.declared.SettingAnswer.{SettingAnswer}
+use Rattle.sharing.specs.declared.SettingAnswer.the-variants.{Value, Refused}
 
-pub record Ready (R : Round) : Type 0 where
-  pub proper : Proper (groupIn R)
-  pub some : 1 ≤ R .n
-  pub at-most : R .n ≤ 31
-  pub few : R .n < groupIn R .q
-  pub threshold : 1 ≤ R .t
-  pub enough : R .t ≤ R .n
-
-pub ready : (R : Round) → Met (roundChecks R) → Ready R
-unfolding isRound
-ready R m =
-    let a = and-true (leb 1 (R .n)) _ (m .1 .0) in
-    let b = and-true (leb (R .n) 31) _ (a .1) in
-    let c = and-true (ltb (R .n) (groupIn R .q)) _ (b .1) in
-    let d = and-true (leb 1 (R .t)) (leb (R .t) (R .n)) (c .1) in
+pub round-proper : (R : Round) → Met (roundChecks R) → ProperSetting (settingIn R)
+unfolding roundChecks inRange isGroup
+round-proper R m =
+    let S : Setting = settingIn R in
+    let a = and-true (leb 1 (S .n)) _ (m .1 .0) in
+    let b = and-true (leb (S .n) 31) _ (a .1) in
+    let c = and-true (ltb (S .n) (S .group .q)) _ (b .1) in
+    let d = and-true (leb 1 (S .t)) (leb (S .t) (S .n)) (c .1) in
+    let k = leb-true (R .group) 3 (and-true (leb 1 (R .group)) _ (m .0) .1) in
     record {
       proper = table-proper (R .group) (m .0);
-      some = leb-true 1 (R .n) (a .0);
-      at-most = leb-true (R .n) 31 (b .0);
-      few = ltb-true (R .n) (groupIn R .q) (c .0);
-      threshold = leb-true 1 (R .t) (d .0);
-      enough = leb-true (R .t) (R .n) (d .1);
+      p-word = table-below (R .group) (m .0);
+      q-word = order-below (R .group) (m .0);
+      number-byte = omega arith;
+      n-positive = leb-true 1 (S .n) (a .0);
+      n-most = leb-true (S .n) 31 (b .0);
+      n-below = ltb-true (S .n) (S .group .q) (c .0);
+      t-positive = leb-true 1 (S .t) (d .0);
+      t-most = leb-true (S .t) (S .n) (d .1);
     }
 
-module _ {R : Round} (Y : Ready R) where
+-- ---- an operation over a round, where 1 and 2 do not refuse it
+module _ {A : Type 0} (R : Round) (checks : Setting → List Check) (answer : Setting → A) where
+  module _ (m : Met (roundChecks R)) where
+    pub judged-in : judged R checks answer ≡ outcome (checks (settingIn R)) (answer (settingIn R))
+    unfolding judged
+    judged-in = sym (rest-outcome (roundChecks R) (checks (settingIn R)) m (answer (settingIn R)))
+
+    pub judged-else-in : (old : A) → judgedElse R checks answer old ≡ ifMet (checks (settingIn R)) (answer (settingIn R)) old
+    unfolding judgedElse
+    judged-else-in old = sym (rest-choice (roundChecks R) (checks (settingIn R)) m (answer (settingIn R)) old)
+
+  -- a value over the round is one in its setting, and the round is not refused
+  pub judged-exactly : (a : A)
+      → (judged R checks answer ≡ value a) ↔ (Met (roundChecks R) × (outcome (checks (settingIn R)) (answer (settingIn R)) ≡ value a))
+  unfolding judged
+  judged-exactly a = (
+    λ e.
+        let m = met-both (roundChecks R) (checks (settingIn R)) (value-met (roundChecks R ++ checks (settingIn R)) (answer (settingIn R)) a e .0) .0 in
+        (m, sym (judged-in m) ∙ e),
+    λ w. judged-in (w .0) ∙ w .1,
+  )
+
+  -- ---- the same by the answer r of the function that gives the setting
+  module _ {r : SettingAnswer} (e : settingOutcomeOf r ≡ settingOutcome R) where
+    pub judged-refused : {k : ℕ} → r ≡ Refused k → refused k ≡ judged R checks answer
+    unfolding judged settingOutcome
+    judged-refused f = given-refused (roundChecks R) (settingIn R) checks answer (sym e ∙ ap settingOutcomeOf f)
+
+    pub judged-value : {S : Setting} → r ≡ Value S → outcome (checks S) (answer S) ≡ judged R checks answer
+    unfolding judged settingOutcome
+    judged-value f = given-value (roundChecks R) (settingIn R) checks answer (sym e ∙ ap settingOutcomeOf f)
+
+    pub judged-kept : {k : ℕ} → r ≡ Refused k → (old : A) → old ≡ judgedElse R checks answer old
+    unfolding judgedElse settingOutcome
+    judged-kept f old = given-kept (roundChecks R) (settingIn R) checks answer (sym e ∙ ap settingOutcomeOf f) old
+
+    pub judged-lent : {S : Setting} → r ≡ Value S → (old : A) → ifMet (checks S) (answer S) old ≡ judgedElse R checks answer old
+    unfolding judgedElse settingOutcome
+    judged-lent f old = given-choice (roundChecks R) (settingIn R) checks answer (sym e ∙ ap settingOutcomeOf f) old
+
+pub setting-proper : (R : Round) {r : SettingAnswer} → settingOutcomeOf r ≡ settingOutcome R → {S : Setting} → r ≡ Value S → ProperSetting S
+unfolding settingOutcome
+setting-proper R e {S} f =
+    let s = value-met (roundChecks R) (settingIn R) S (sym e ∙ ap settingOutcomeOf f) in
+    subst ProperSetting (s .1) (round-proper R (s .0))
+
+-- ---- members and quorums
+pub true-quorum : (S : Setting) (ms : List ℕ) → Quorum S ms → isQuorum S ms ≡ true
+unfolding isQuorum isMember
+true-quorum S ms Q =
+    let member : (i : ℕ) → (1 ≤ i) × (i ≤ S .n) → isMember (S .n) i ≡ true =
+    λ i s. true-and (leb 1 i) (leb i (S .n)) (le-leb 1 i (s .0)) (le-leb i (S .n) (s .1)) in
+    true-and (leb (S .t) (length ms)) _ (le-leb (S .t) (length ms) (Q .enough))
+    (true-and (all (isMember (S .n)) ms) _ (true-all (isMember (S .n)) ms (All-to ms member (Q .within))) (true-distinct ms (Q .distinct)))
+
+module _ {S : Setting} (Y : ProperSetting S) where
+  -- the test of a quorum leaves members below q
+  pub tested-low : (ms : List ℕ) → isQuorum S ms ≡ true → Below (S .group .q) ms
+  unfolding isQuorum isMember
+  tested-low ms e =
+      All-to ms (λ i s. omega (arith, leb-true i (S .n) (and-true (leb 1 i) (leb i (S .n)) s .1), Y .n-below))
+      (all-true (isMember (S .n)) ms (and-true (all (isMember (S .n)) ms) (noneTwice ms) (and-true (leb (S .t) (length ms)) _ e .1) .0))
+
   -- the members, with a value for each
-  pub member-nodes : (es : List ℕ) → Below (groupIn R .q) es → length es ≡ R .n → Nodes (groupIn R .q) (members (R .n)) es
+  pub member-nodes : (es : List ℕ) → Below (S .group .q) es → length es ≡ S .n → Nodes (S .group .q) (members (S .n)) es
   member-nodes es low size =
       record {
-        nodes-low = All-to (members (R .n)) (λ i s. s .1) (up-within 1 (R .n) (groupIn R .q) (omega (arith, Y .few)));
+        nodes-low = All-to (members (S .n)) (λ i s. s .1) (up-within 1 (S .n) (S .group .q) (omega (arith, Y .n-below)));
         values-low = low;
-        distinct = up-distinct 1 (R .n);
-        size = omega (arith, up-length 1 (R .n));
+        distinct = up-distinct 1 (S .n);
+        size = omega (arith, up-length 1 (S .n));
       }
 
   -- the first t members
-  pub first-quorum : Quorum R (members (R .t))
+  pub first-quorum : Quorum S (members (S .t))
   first-quorum =
       record {
-        within = All-to (members (R .t)) (λ i s. (s .0, omega (arith, s .1, Y .enough))) (up-within 1 (R .t) (1 + R .t) (omega arith));
-        distinct = up-distinct 1 (R .t);
-        enough = omega (arith, up-length 1 (R .t));
+        within = All-to (members (S .t)) (λ i s. (s .0, omega (arith, s .1, Y .t-most))) (up-within 1 (S .t) (1 + S .t) (omega arith));
+        distinct = up-distinct 1 (S .t);
+        enough = omega (arith, up-length 1 (S .t));
       }
 
-  module _ {ms : List ℕ} (Q : Quorum R ms) where
-    pub quorum-low : Below (groupIn R .q) ms
-    quorum-low = All-to ms (λ i s. omega (arith, s .1, Y .few)) (Q .within)
+  module _ {ms : List ℕ} (Q : Quorum S ms) where
+    pub quorum-low : Below (S .group .q) ms
+    quorum-low = All-to ms (λ i s. omega (arith, s .1, Y .n-below)) (Q .within)
 
     pub quorum-nonzero : All (λ i. i ≡ 0 → ⊥) ms
     quorum-nonzero = All-to ms (λ i s e. omega (arith, s .0)) (Q .within)

@@ -1,5 +1,5 @@
--- What the degree check, the opening and recovery answer.
-use mathlib.Core.Bool.{_&&_}
+-- What the degree check, the opening and recovery answer: in a setting, and over a round, whose own checks come first.
+use mathlib.Core.Bool.{Bool, _&&_}
 use mathlib.Core.List.{List, [], _∷_, _++_}
 use Prim.Native.Nat.{ℕ, _-_}
 use lib.Dec.{leb, eqb}
@@ -10,9 +10,10 @@ use Rattle.group.specs.Power.{pow}
 use Rattle.group.specs.Element.{isElement, isExponent}
 use Rattle.group.specs.declared.Element.{Element}
 use Rattle.group.specs.declared.Group.{Group}
-use Rattle.sharing.specs.Round.{groupIn, roundChecks, isMember, members}
-use Rattle.sharing.specs.Weights.{weightsOf, lagrangeAt, powers}
+use Rattle.sharing.specs.Setting.{judged, isMember, members}
+use Rattle.sharing.specs.Weights.{weightsOf, lagrangeAt, powersProduct}
 use Rattle.sharing.specs.declared.Round.{Round}
+use Rattle.sharing.specs.declared.Setting.{Setting}
 use Rattle.sharing.specs.declared.CheckAnswer.{CheckAnswer}
 use Rattle.sharing.specs.declared.CheckAnswer.the-variants.{Passed, Refused}
 
@@ -22,47 +23,72 @@ checkOutcomeOf (Refused k) = refused k
 
 -- ---- degree check
 -- the product of the commitments to their weights
-unfoldable pub degreeProduct : Group → ℕ → List ℕ → List ℕ → ℕ
-degreeProduct G n vs cs = powers (G .p) vs (weightsOf (G .q) n cs)
+unfoldable pub degreeProduct : Setting → List ℕ → List ℕ → ℕ
+degreeProduct S vs ds = powersProduct (S .group .p) vs (weightsOf S ds)
 
-abbrev pub degreeChecks : Round → List ℕ → List ℕ → List Check
-degreeChecks R vs cs =
-    roundChecks R ++
-    (3 unless (eqb (length vs) (R .n) && eqb (length cs) (R .n - R .t))
-    ∷ 6 unless all (isElement (groupIn R)) vs
-    ∷ 7 unless all (isExponent (groupIn R)) cs
-    ∷ 9 unless eqb (degreeProduct (groupIn R) (R .n) vs cs) 1
-    ∷ [])
+-- n commitments in the group, and a check polynomial of n - t coefficients below q
+unfoldable pub degreeFigures : Setting → List ℕ → List ℕ → List Check
+degreeFigures S vs ds =
+    3 unless (eqb (length vs) (S .n) && eqb (length ds) (S .n - S .t))
+    ∷ 6 unless all (isElement (S .group)) vs
+    ∷ 7 unless all (isExponent (S .group)) ds
+    ∷ []
+
+unfoldable pub degreeEquation : Setting → List ℕ → List ℕ → List Check
+degreeEquation S vs ds = 9 unless eqb (degreeProduct S vs ds) 1 ∷ []
+
+abbrev pub degreeChecks : Setting → List ℕ → List ℕ → List Check
+degreeChecks S vs ds = degreeFigures S vs ds ++ degreeEquation S vs ds
+
+unfoldable pub degreeIn : Setting → List ℕ → List ℕ → Outcome (Unit {0})
+degreeIn S vs ds = outcome (degreeChecks S vs ds) tt
 
 unfoldable pub degreeOutcome : Round → List ℕ → List ℕ → Outcome (Unit {0})
-degreeOutcome R vs cs = outcome (degreeChecks R vs cs) tt
+degreeOutcome R vs ds = judged R (λ S. degreeChecks S vs ds) (λ S. tt)
 
 -- ---- recovery
 -- the product of the shares to Lagrange's coefficients
 unfoldable pub recovered : Group → List ℕ → List ℕ → ℕ
-recovered G ms ss = powers (G .p) ss (map (lagrangeAt (G .q) ms) ms)
+recovered G ms ss = powersProduct (G .p) ss (map (lagrangeAt G ms) ms)
 
-abbrev pub recoveryChecks : Round → List ℕ → List ℕ → List Check
-recoveryChecks R ms ss =
-    roundChecks R ++
-    (3 unless eqb (length ms) (length ss)
-    ∷ 8 unless (leb (R .t) (length ms) && (all (isMember (R .n)) ms && noneTwice ms))
-    ∷ 6 unless all (isElement (groupIn R)) ss
-    ∷ [])
+-- t or more members from 1 to n, none twice
+unfoldable pub isQuorum : Setting → List ℕ → Bool
+isQuorum S ms = leb (S .t) (length ms) && (all (isMember (S .n)) ms && noneTwice ms)
+
+abbrev pub recoveryChecks : Setting → List ℕ → List ℕ → List Check
+recoveryChecks S ms ss =
+    3 unless eqb (length ms) (length ss)
+    ∷ 8 unless isQuorum S ms
+    ∷ 6 unless all (isElement (S .group)) ss
+    ∷ []
+
+unfoldable pub recoveryIn : Setting → List ℕ → List ℕ → Outcome Element
+recoveryIn S ms ss = outcome (recoveryChecks S ms ss) (record { 0 = recovered (S .group) ms ss })
 
 unfoldable pub recoveryOutcome : Round → List ℕ → List ℕ → Outcome Element
-recoveryOutcome R ms ss = outcome (recoveryChecks R ms ss) (record { 0 = recovered (groupIn R) ms ss })
+recoveryOutcome R ms ss = judged R (λ S. recoveryChecks S ms ss) (λ S. record { 0 = recovered (S .group) ms ss })
 
 -- ---- opening
--- g to the opening is what the first t commitments give at 0
-abbrev pub openingChecks : Round → List ℕ → ℕ → List Check
-openingChecks R vs s =
-    roundChecks R ++
-    (3 unless eqb (length vs) (R .n)
-    ∷ 6 unless all (isElement (groupIn R)) vs
-    ∷ 7 unless isExponent (groupIn R) s
-    ∷ 11 unless eqb (pow (groupIn R .p) (groupIn R .g .0) s) (recovered (groupIn R) (members (R .t)) (take (R .t) vs))
-    ∷ [])
+-- g to the opening u is what the first t commitments give at 0
+unfoldable pub isOpening : Setting → List ℕ → ℕ → Bool
+isOpening S vs u = eqb (pow (S .group .p) (S .group .g .0) u) (recovered (S .group) (members (S .t)) (take (S .t) vs))
+
+-- n commitments in the group, and an exponent
+unfoldable pub openingFigures : Setting → List ℕ → ℕ → List Check
+openingFigures S vs u =
+    3 unless eqb (length vs) (S .n)
+    ∷ 6 unless all (isElement (S .group)) vs
+    ∷ 7 unless isExponent (S .group) u
+    ∷ []
+
+unfoldable pub openingEquation : Setting → List ℕ → ℕ → List Check
+openingEquation S vs u = 11 unless isOpening S vs u ∷ []
+
+abbrev pub openingChecks : Setting → List ℕ → ℕ → List Check
+openingChecks S vs u = openingFigures S vs u ++ openingEquation S vs u
+
+unfoldable pub openingIn : Setting → List ℕ → ℕ → Outcome (Unit {0})
+openingIn S vs u = outcome (openingChecks S vs u) tt
 
 unfoldable pub openingOutcome : Round → List ℕ → ℕ → Outcome (Unit {0})
-openingOutcome R vs s = outcome (openingChecks R vs s) tt
+openingOutcome R vs u = judged R (λ S. openingChecks S vs u) (λ S. tt)

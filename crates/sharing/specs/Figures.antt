@@ -6,24 +6,28 @@ use Prim.Native.Nat.{ℕ}
 use Rattle.words.specs.Lists.{map}
 use Rattle.words.specs.Checks.{refused, Met}
 use Rattle.group.specs.Power.{pow}
-use Rattle.sharing.specs.Round.{roundChecks}
-use Rattle.sharing.specs.Answer.{degreeOutcome}
+use Rattle.sharing.specs.Setting.{settingIn, roundChecks}
+use Rattle.sharing.specs.Answer.{degreeIn}
 use Rattle.sharing.specs.Carried.{Carries, Commitments, Passes, place}
 use Rattle.sharing.specs.declared.Round.{Round}
+use Rattle.sharing.specs.declared.Setting.{Setting}
 
-abbrev pub small : Round
-small = record { group = 1; n = 4; t = 2 }
+abbrev pub smallRound : Round
+smallRound = record { group = 1; n = 4; t = 2 }
+
+abbrev pub small : Setting
+small = settingIn smallRound
 
 -- the round is one that nothing refuses, and 3 + 5 times the member number carries 9, 16, 8, 4
 abbrev pub CarriedFigures : Type 0
-CarriedFigures = Met (roundChecks small) × Carries small (3 ∷ 5 ∷ []) (9 ∷ 16 ∷ 8 ∷ 4 ∷ [])
+CarriedFigures = Met (roundChecks smallRound) × Carries small (3 ∷ 5 ∷ []) (9 ∷ 16 ∷ 8 ∷ 4 ∷ [])
 
 -- no polynomial carries the commitments, and the place that they fix is the first
 pub record FirstPlace (vs : List ℕ) : Type 0 where
   pub commitments : Commitments small vs
-  pub uncarried : (cs : List ℕ) → Carries small cs vs → ⊥
+  pub uncarried : (f : List ℕ) → Carries small f vs → ⊥
   pub first : place small vs ≡ 0
-  pub unit-refused : degreeOutcome small vs (1 ∷ 0 ∷ []) ≡ refused 9
+  pub unit-refused : degreeIn small vs (1 ∷ 0 ∷ []) ≡ refused 9
 
 -- the commitments of the exponents 0, 7, 1, 0 are caught by the first place only: the unit of the last passes
 abbrev pub firstOnly : List ℕ

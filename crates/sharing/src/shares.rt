@@ -1,12 +1,13 @@
-// Lagrange's coefficients at 0, and the product of shares to them.
+// Lagrange's coefficients at 0, the product of shares to them, and the equation of an opening.
 ghost use mathlib.Core.Path.{_≡_};
-ghost use Prim.Native.Nat.{_≤_, _<_};
+ghost use Prim.Native.Nat.{_<_};
 ghost use lib.ListN.{length, take};
 ghost use Rattle.words.specs.Lists.{Below};
 ghost use Rattle.group.specs.Element.{Proper};
-ghost use Rattle.sharing.specs.Round.{members};
+ghost use Rattle.sharing.specs.Setting.{ProperSetting, members};
 ghost use Rattle.sharing.specs.Weights.{lagrangeAt};
-ghost use Rattle.sharing.specs.Answer.{recovered};
+ghost use Rattle.sharing.specs.Answer.{recovered, isOpening};
+use crate::Setting;
 use group::Element;
 use group::Exponent;
 use group::Group;
@@ -51,7 +52,7 @@ const MEMBERS: [u32; 31] = [
 // Internal: callers ensure that the group is proper and that i and the members are below q.
 fn lagrange(gr: Group, ms: &[u32], i: u32) -> Exponent
     requires { ⌜ (Proper gr) × (i < gr .q) × (Below (gr .q) (now ms)) ⌝ }
-    ensures { λ r. ⌜ r .0 ≡ lagrangeAt (gr .q) (now (ms .entry)) i ⌝ }
+    ensures { λ r. ⌜ r .0 ≡ lagrangeAt gr (now (ms .entry)) i ⌝ }
 {
     let mut numbers = Exponent(1);
     let mut gaps = Exponent(1);
@@ -84,13 +85,24 @@ pub fn recovered_from(gr: Group, ms: &[u32], ss: &[u32]) -> Element
     product
 }
 
-// The same product of the first t figures, those of the members 1 to t.
-// Internal: callers ensure that the group is proper, that t is at most 31 and below q and that there are at least t figures.
-pub(crate) fn recovered_from_first(gr: Group, t: u32, vs: &[u32]) -> Element
-    requires { ⌜ (Proper gr) × (t ≤ 31) × (t < gr .q) × (t ≤ length (now vs)) ⌝ }
-    ensures { λ r. ⌜ r .0 ≡ recovered gr (members t) (take t (now (vs .entry))) ⌝ }
+// The same product of the first t commitments, those of the members 1 to t.
+// Internal: callers ensure that the setting is proper and that there are n commitments.
+fn recovered_from_first(s: Setting, vs: &[u32]) -> Element
+    requires { ⌜ (ProperSetting s) × (length (now vs) ≡ s .n) ⌝ }
+    ensures { λ r. ⌜ r .0 ≡ recovered (s .group) (members (s .t)) (take (s .t) (now (vs .entry))) ⌝ }
 {
-    let k = t as usize;
+    let k = s.t as usize;
     let members = MEMBERS;
-    recovered_from(gr, &members[..k], &vs[..k])
+    recovered_from(s.group, &members[..k], &vs[..k])
+}
+
+// Whether u opens the commitments vs: the equation of the opening, without its other checks.
+// Internal: callers ensure that the setting is proper and that there are n commitments.
+pub fn opens(s: Setting, vs: &[u32], u: Exponent) -> bool
+    requires { ⌜ (ProperSetting s) × (length (now vs) ≡ s .n) ⌝ }
+    ensures { λ r. ⌜ r ≡ isOpening s (now (vs .entry)) (u .0) ⌝ }
+{
+    let committed = recovered_from_first(s, vs);
+    let opened = s.group.g.power(s.group, u);
+    opened.0 == committed.0
 }

@@ -1,33 +1,28 @@
 -- No text is longer than 1,024 bytes.
-use mathlib.Core.Path.{_≡_, refl, ap, _∙_}
-use mathlib.Core.Bool.{Bool, true, false}
+use mathlib.Core.Path.{_≡_, refl, ap, _∙_, subst}
 use mathlib.Core.List.{List, [], _∷_, _++_}
 use Prim.Native.Nat.{ℕ, suc, _+_, _*_, _≤_, _<_}
 use native.Mathlib.Omega.{arith}
-use borrow.Author.Tests.{eqb-true}
 use lib.ListN.{length, drop, length-append}
-use lib.Dec.{eqb}
-use Rattle.words.specs.Choice.{pick}
-use Rattle.words.specs.Checks.{Outcome, value, refused, refusal, Met}
+use Rattle.words.specs.Checks.{Check, Outcome, value, refused, outcome}
 use Rattle.words.proofs.Lists.{map-length, up-length}
-use Rattle.words.proofs.Checks.{none-exactly}
+use Rattle.words.proofs.Checks.{value-met}
 use Rattle.group.specs.declared.Element.{Element}
-use Rattle.sharing.specs.Round.{roundChecks, members}
+use Rattle.sharing.specs.Setting.{ProperSetting, settingIn, judged, members}
 use Rattle.sharing.specs.declared.Round.{Round}
-use Rattle.sharing.proofs.Rounds.{ready}
+use Rattle.sharing.specs.declared.Setting.{Setting}
+use Rattle.sharing.proofs.Rounds.{round-proper, judged-exactly}
 use Rattle.board.specs.Board.{boardChecks}
-use Rattle.board.proofs.Numbers.{board-numbered}
 use Rattle.verdicts.specs.Verdict.{Judges, verdictOn, verdictsOn}
-use Rattle.verdicts.specs.Draw.{countAccepted, drawOn}
+use Rattle.verdicts.specs.Draw.{countAccepted, drawIn}
 use Rattle.verdicts.specs.declared.Secret.{Secret}
 use Rattle.verdicts.specs.declared.Secret.the-variants.{Opened, Recovered, Stuck}
 use Rattle.verdicts.specs.declared.Verdict.{Verdict}
 use Rattle.verdicts.specs.declared.Verdict.the-variants.{None, Refused, Accepted}
-use Rattle.text.specs.Text.{figure, newLine, dealerWord, openedWord, recoveredWord, refusedWord, roundWord, acceptedWord, drawWord}
-use Rattle.text.specs.Text.{secretText, verdictText, dealerLine, dealerLines, refusedLine, drawLine, roundLine, acceptedLine, report, boardText, setChecks, roundIn, drawText}
+use Rattle.text.specs.Text.{figure, newLine, dealerWord, openedWord, recoveredWord, refusedWord, roundWord, acceptedWord, drawWord, secretText, verdictText, dealerLine, dealerLines, refusedLine, drawLine, roundLine, acceptedLine, textOf, report, boardText, setChecks, roundIn, drawText}
 use Rattle.text.specs.Buffer.{Room}
 use Rattle.text.specs.Claims.{TextFits}
-use Rattle.text.proofs.Figures.{figure-most, short-figure}
+use Rattle.text.proofs.Decimals.{figure-most, short-figure}
 
 -- ---- lines
 -- a word and a figure, and a line of them
@@ -77,68 +72,67 @@ draw-most : (o : Outcome Element) → length (drawLine o) ≤ 19
 draw-most (value v) = omega (arith, line-most drawWord (v .0))
 draw-most (refused k) = refused-most k
 
-round-most : (R : Round) → R .n < 100 → R .t < 100 → length (roundLine R) ≤ 23
+round-most : (S : Setting) → S .n < 100 → S .t < 100 → length (roundLine S) ≤ 23
 unfolding roundLine
-round-most R h g =
+round-most S h g =
     omega (
       arith,
-      length-append (roundWord ++ figure (R .group)) (figure (R .n) ++ (figure (R .t) ++ newLine)),
-      worded-most roundWord (R .group),
-      length-append (figure (R .n)) (figure (R .t) ++ newLine),
-      length-append (figure (R .t)) newLine,
-      short-figure (R .n) h,
-      short-figure (R .t) g,
+      length-append (roundWord ++ figure (S .number)) (figure (S .n) ++ (figure (S .t) ++ newLine)),
+      worded-most roundWord (S .number),
+      length-append (figure (S .n)) (figure (S .t) ++ newLine),
+      length-append (figure (S .t)) newLine,
+      short-figure (S .n) h,
+      short-figure (S .t) g,
     )
 
 -- ---- the text
--- a board whose verdicts are reached has a proper round
-pub reached-round : (R : Round) (b : List ℕ) → refusal (boardChecks R b) ≡ 0 → Met (roundChecks R)
-reached-round R b e = let m = none-exactly (boardChecks R b) (board-numbered R b) .0 e in (m .0, (m .1 .0, tt))
+report-most : (J : Judges) (S : Setting) (b : List ℕ) → ProperSetting S → length (report J S b) ≤ 1024
+unfolding report acceptedLine
+report-most J S b P =
+    let vs = verdictsOn J S b in
+    let s : length vs ≡ S .n = map-length (verdictOn J S b) (members (S .n)) ∙ up-length 1 (S .n) in
+    let ds = dealerLines 1 vs in
+    let al = acceptedWord ++ (figure (countAccepted vs) ++ newLine) in
+    let last = drawLine (drawIn J S b) in
+    omega (
+      arith,
+      length-append (roundLine S) (ds ++ (al ++ last)),
+      length-append ds (al ++ last),
+      length-append al last,
+      round-most S (omega arith) (omega arith),
+      dealers-most 1 vs (omega arith),
+      line-most acceptedWord (countAccepted vs),
+      draw-most (drawIn J S b),
+    )
 
-module _ (J : Judges) where
-  report-most : (R : Round) (b : List ℕ) → Met (roundChecks R) → length (report J R b) ≤ 1024
-  unfolding report acceptedLine
-  report-most R b m =
-      let r = ready R m in
-      let vs = verdictsOn J R b in
-      let s : length vs ≡ R .n = map-length (verdictOn J R b) (members (R .n)) ∙ up-length 1 (R .n) in
-      let ds = dealerLines 1 vs in
-      let al = acceptedWord ++ (figure (countAccepted vs) ++ newLine) in
-      omega (
-        arith,
-        length-append (roundLine R) (ds ++ (al ++ drawLine (drawOn J R b))),
-        length-append ds (al ++ drawLine (drawOn J R b)),
-        length-append al (drawLine (drawOn J R b)),
-        round-most R (omega arith) (omega arith),
-        dealers-most 1 vs (omega arith),
-        line-most acceptedWord (countAccepted vs),
-        draw-most (drawOn J R b),
-      )
+-- a text that is due where checks are met
+text-most : (o : Outcome (List ℕ)) → ((t : List ℕ) → o ≡ value t → length t ≤ 1024) → length (textOf o) ≤ 1024
+text-most (value t) h = h t refl
+text-most (refused k) h = omega (arith, refused-most k)
 
-  board-most : (R : Round) (b : List ℕ) → length (boardText J R b) ≤ 1024
-  unfolding boardText
-  board-most R b = go (eqb (refusal (boardChecks R b)) 0) refl
-    where
-      go : (x : Bool) → eqb (refusal (boardChecks R b)) 0 ≡ x
-          → length (pick x (report J R b) (refusedLine (refusal (boardChecks R b)))) ≤ 1024
-      go true e = report-most R b (reached-round R b (eqb-true _ 0 e))
-      go false e = omega (arith, refused-most (refusal (boardChecks R b)))
+outcome-most : (cs : List Check) (a t : List ℕ) → length a ≤ 1024 → outcome cs a ≡ value t → length t ≤ 1024
+outcome-most cs a t h e = subst (λ (x : List ℕ). length x ≤ 1024) (value-met cs a t e .1) h
+
+board-most : (J : Judges) (R : Round) (b : List ℕ) → length (boardText J R b) ≤ 1024
+unfolding boardText
+board-most J R b =
+    text-most (judged R (λ S. boardChecks S b) (λ S. report J S b)) λ t e.
+    let w = judged-exactly R (λ S. boardChecks S b) (λ S. report J S b) t .0 e in
+    outcome-most (boardChecks (settingIn R) b) (report J (settingIn R) b) t (report-most J (settingIn R) b (round-proper R (w .0))) (w .1)
 
 pub text-fits : TextFits
 unfolding drawText
-text-fits J s b = go (eqb (refusal (setChecks s)) 0)
-  where
-    go : (x : Bool) → length (pick x (boardText J (roundIn s) b) (refusedLine (refusal (setChecks s)))) ≤ 1024
-    go true = board-most J (roundIn s) b
-    go false = omega (arith, refused-most (refusal (setChecks s)))
+text-fits J s b =
+    text-most (outcome (setChecks s) (boardText J (roundIn s) b))
+    λ t e. outcome-most (setChecks s) (boardText J (roundIn s) b) t (board-most J (roundIn s) b) e
 
 -- ---- room in a buffer of 1,024 bytes
 module _ (l : List ℕ) (e : length l ≡ 1024) where
   pub refused-room : (k : ℕ) → Room 0 (refusedLine k) l
   refused-room k = record { fits = omega (arith, refused-most k) }
 
-  pub board-room : (J : Judges) (R : Round) (b : List ℕ) → Room 0 (boardText J R b) l
-  board-room J R b = record { fits = omega (arith, board-most J R b) }
+  pub report-room : (J : Judges) (S : Setting) (b : List ℕ) → ProperSetting S → Room 0 (report J S b) l
+  report-room J S b P = record { fits = omega (arith, report-most J S b P) }
 
 -- what `draw_text` answers is within the buffer
 pub text-within : (J : Judges) (s b l m : List ℕ) (r : ℕ) → (r ≡ length (drawText J s b)) × (m ≡ drawText J s b ++ drop r l) → r ≤ length m

@@ -1,80 +1,65 @@
 -- What is written from the board judge's answer is the report on the board, and which text is due by what is refused.
-use mathlib.Core.Path.{_≡_, refl, sym, ap, _∙_}
-use mathlib.Core.Bool.{Bool, true, false}
-use mathlib.Core.List.{List, _∷_, _++_}
-use Prim.Native.Nat.{ℕ, zero, suc, _+_, _≤_}
-use native.Mathlib.Nat.{le-of-suc-le-suc, not-suc-le-zero}
+use mathlib.Core.Path.{_≡_, sym, ap, _∙_}
+use mathlib.Core.List.{List, _++_}
+use Prim.Native.Nat.{ℕ, suc, _≤_}
 use native.Mathlib.Omega.{arith}
-use borrow.Author.Tests.{le-leb, eq-eqb, ne-eqb, eqb-true}
-use lib.ListN.{length, take}
-use lib.Dec.{eqb, leb}
+use borrow.Author.Tests.{le-leb}
+use lib.Dec.{leb}
 use Rattle.words.specs.Lists.{map, upFrom}
-use Rattle.words.specs.Checks.{refusal}
-use Rattle.words.proofs.Tests.{pick-true, pick-false}
-use Rattle.sharing.specs.Round.{members}
-use Rattle.sharing.specs.declared.Round.{Round}
+use Rattle.words.specs.Checks.{Check, refusal, outcome, Met}
+use Rattle.words.proofs.Lists.{All-to, take-map, map-comp, map-same, up-take, up-within}
+use Rattle.words.proofs.Tests.{pick-true}
+use Rattle.words.proofs.Checks.{value-exactly}
+use Rattle.words.proofs.Stages.{rest-outcome, last-refused}
+use Rattle.group.specs.Answer.{elementOutcomeOf}
+use Rattle.sharing.specs.Setting.{settingOutcomeOf, settingOutcome, members}
+use Rattle.sharing.specs.declared.Setting.{Setting}
+use Rattle.sharing.specs.declared.SettingAnswer.{SettingAnswer}
+use Rattle.sharing.specs.declared.SettingAnswer.the-variants.{Value, Refused}
+use Rattle.sharing.proofs.Rounds.{judged-refused, judged-value}
 use Rattle.board.specs.Board.{boardChecks}
 use Rattle.verdicts.specs.Verdict.{Judges, verdictOn, verdictsOn}
-use Rattle.verdicts.specs.Draw.{countAccepted, seatOf, seatsOf, JudgedAs}
+use Rattle.verdicts.specs.Draw.{drawChecks, drawOf, boardProduct, drawIn, placeFor, verdictPlaces, JudgementIn}
 use Rattle.verdicts.specs.declared.Verdict.{Verdict}
 use Rattle.verdicts.specs.declared.Verdict.the-variants.{None}
-use Rattle.verdicts.specs.declared.Seat.{Seat}
-use Rattle.verdicts.specs.declared.Judged.{Judged}
-use Rattle.text.specs.Text.{dealerLines, refusedLine, drawLine, roundLine, acceptedLine, report, boardText, setChecks, roundIn, drawText}
+use Rattle.verdicts.specs.declared.Judgement.{Judgement}
+use Rattle.text.specs.Text.{dealerLines, refusedLine, drawLine, roundLine, acceptedLine, textOf, report, boardTextIn, boardText, setChecks, roundIn, drawText}
 use Rattle.text.specs.Report.{verdictAt, verdictsAt, reportFrom}
 
--- ---- the verdicts in the seats
-up-take : (f : ℕ → Seat) (k i m : ℕ) → k ≤ m → take k (map f (upFrom i m)) ≡ map f (upFrom i k)
-up-take f zero i m h = refl
-up-take f (suc k) i zero h = absurd (not-suc-le-zero h)
-up-take f (suc k) i (suc m) h = ap (λ (t : List Seat). f i ∷ t) (up-take f k (suc i) m (le-of-suc-le-suc h))
-
-module _ (w : ℕ → Verdict) (n : ℕ) where
-  seated : (i k : ℕ) → i + k ≤ suc n → map verdictAt (map (seatOf w n) (upFrom i k)) ≡ map w (upFrom i k)
-  seated i zero h = refl
-  seated i (suc k) h =
-      let e = pick-true (leb i n) (w i) None (le-leb i n (omega arith)) in
-      λ j. e j ∷ seated (suc i) k (omega arith) j
-
-  seats-verdicts : n ≤ 31 → verdictsAt n (seatsOf w n) ≡ map w (members n)
-  unfolding seatsOf
-  seats-verdicts h = ap (map verdictAt) (up-take (seatOf w n) n 1 31 h) ∙ seated 1 n (omega arith)
+-- the first n of the verdicts in the array
+places-verdicts : (w : ℕ → Verdict) (n : ℕ) → n ≤ 31 → verdictsAt n (verdictPlaces w n) ≡ map w (members n)
+unfolding verdictPlaces
+places-verdicts w n h =
+    ap (map verdictAt) (take-map (placeFor w n) n (upFrom 1 31) ∙ ap (map (placeFor w n)) (up-take 1 n 31 h))
+    ∙ map-comp (placeFor w n) verdictAt (members n)
+    ∙ map-same (λ (d : ℕ). placeFor w n d .verdict) w (members n)
+    (All-to (members n) (λ d s. pick-true (leb d n) (w d) None (le-leb d n (omega (arith, s .1)))) (up-within 1 n (suc n) (omega arith)))
 
 -- ---- the report
-pub report-same : (J : Judges) (R : Round) (b : List ℕ) (A : Judged) → R .n ≤ 31 → refusal (boardChecks R b) ≡ 0 → JudgedAs J R b A
-    → reportFrom R A ≡ report J R b
-unfolding reportFrom report
-report-same J R b A h e a =
-    let t = eq-eqb (refusal (boardChecks R b)) 0 e in
-    let vs : verdictsAt (R .n) (A .seats) ≡ verdictsOn J R b =
-    ap (verdictsAt (R .n)) (a .seats ∙ pick-true (eqb (refusal (boardChecks R b)) 0) _ _ t)
-    ∙ seats-verdicts (verdictOn J R b) (R .n) h in
-    let m : A .accepted ≡ countAccepted (verdictsOn J R b) = a .accepted ∙ pick-true (eqb (refusal (boardChecks R b)) 0) _ _ t in
-    λ j. roundLine R ++ (dealerLines 1 (vs j) ++ (acceptedLine (m j) ++ drawLine (a .draw j)))
+pub report-same : (J : Judges) (S : Setting) (b : List ℕ) (A : Judgement) → S .n ≤ 31 → Met (boardChecks S b) → JudgementIn J S b A
+    → reportFrom S A ≡ report J S b
+unfolding reportFrom report drawOf drawIn
+report-same J S b A h m a =
+    let vs : verdictsAt (S .n) (A .verdicts) ≡ verdictsOn J S b =
+    ap (verdictsAt (S .n)) (a .verdicts) ∙ places-verdicts (verdictOn J S b) (S .n) h in
+    let e : elementOutcomeOf (A .draw) ≡ drawIn J S b =
+    a .draw ∙ rest-outcome (boardChecks S b) (drawChecks (S .t) (verdictsOn J S b)) m (boardProduct J S b) in
+    λ j. roundLine S ++ (dealerLines 1 (vs j) ++ (acceptedLine (a .accepted j) ++ drawLine (e j)))
 
 -- ---- the text by what is refused
-module _ (J : Judges) (R : Round) (b : List ℕ) where
-  pub board-refused : (refusal (boardChecks R b) ≡ 0 → ⊥) → boardText J R b ≡ refusedLine (refusal (boardChecks R b))
-  unfolding boardText
-  board-refused h = pick-false (eqb (refusal (boardChecks R b)) 0) (report J R b) _ (ne-eqb (refusal (boardChecks R b)) 0 h)
+module _ (cs : List Check) (t : List ℕ) where
+  pub text-refused : {k : ℕ} → k ≡ refusal cs → (k ≡ 0 → ⊥) → textOf (outcome cs t) ≡ refusedLine k
+  text-refused e n = sym (ap textOf (last-refused cs e n t))
 
-  pub board-reported : refusal (boardChecks R b) ≡ 0 → boardText J R b ≡ report J R b
-  unfolding boardText
-  board-reported e = pick-true (eqb (refusal (boardChecks R b)) 0) (report J R b) _ (eq-eqb (refusal (boardChecks R b)) 0 e)
+  pub text-passed : Met cs → textOf (outcome cs t) ≡ t
+  text-passed m = ap textOf (value-exactly (List ℕ) cs t .1 m)
 
-module _ (J : Judges) (s b : List ℕ) where
-  pub set-refused : (refusal (setChecks s) ≡ 0 → ⊥) → drawText J s b ≡ refusedLine (refusal (setChecks s))
-  unfolding drawText
-  set-refused h = pick-false (eqb (refusal (setChecks s)) 0) (boardText J (roundIn s) b) _ (ne-eqb (refusal (setChecks s)) 0 h)
+-- by what the round of an accepted set gives
+module _ (J : Judges) (s b : List ℕ) (m : Met (setChecks s)) {r : SettingAnswer} (e : settingOutcomeOf r ≡ settingOutcome (roundIn s)) where
+  pub round-refused : {k : ℕ} → r ≡ Refused k → drawText J s b ≡ refusedLine k
+  unfolding boardText drawText
+  round-refused f = text-passed (setChecks s) (boardText J (roundIn s) b) m ∙ sym (ap textOf (judged-refused (roundIn s) _ _ e f))
 
-  pub set-passed : refusal (setChecks s) ≡ 0 → drawText J s b ≡ boardText J (roundIn s) b
-  unfolding drawText
-  set-passed e = pick-true (eqb (refusal (setChecks s)) 0) (boardText J (roundIn s) b) _ (eq-eqb (refusal (setChecks s)) 0 e)
-
--- a set that is not refused is one record
-pub set-size : (s : List ℕ) → refusal (setChecks s) ≡ 0 → length s ≡ 32
-set-size s e = go (eqb (length s) 32) refl e
-  where
-    go : (x : Bool) → eqb (length s) 32 ≡ x → refusal (setChecks s) ≡ 0 → length s ≡ 32
-    go true h z = eqb-true (length s) 32 h
-    go false h z = absurd (omega (arith, sym (pick-false (eqb (length s) 32) _ 3 h) ∙ z))
+  pub round-passed : {S : Setting} → r ≡ Value S → drawText J s b ≡ boardTextIn J S b
+  unfolding boardTextIn boardText drawText
+  round-passed f = text-passed (setChecks s) (boardText J (roundIn s) b) m ∙ sym (ap textOf (judged-value (roundIn s) _ _ e f))

@@ -5,10 +5,9 @@ use Prim.Native.Nat.{ℕ, _+_, _≤_, _<_}
 use native.Mathlib.Numerals.{add-one}
 use native.Mathlib.Omega.{arith}
 use lib.ListN.{length, getD, take, drop, set, length-append}
-use lib.Seq.{length-take-le, take-suc, take-all, sets-eq}
+use lib.Seq.{length-take-le, take-suc, take-all}
 use Rattle.words.specs.Bytes.{putAt}
-use Rattle.words.proofs.Bytes.{put-length}
-use Rattle.posted.proofs.Buffers.{put-none, put-put}
+use Rattle.words.proofs.Bytes.{put-length, put-none, put-byte, put-put}
 use Rattle.text.specs.Buffer.{Room, Written}
 
 -- ---- another name of the same text
@@ -70,8 +69,7 @@ pub written-none : (k r : ℕ) (l : List ℕ) → r ≡ k → Written k [] l l r
 written-none k r l e = record { bytes = sym (put-none k l); behind = omega arith }
 
 pub written-one : (k x : ℕ) (l : List ℕ) → k < length l → Written k (x ∷ []) l (set l k x) (k + 1)
-unfolding putAt
-written-one k x l h = record { bytes = sets-eq (x ∷ []) l k (omega arith); behind = refl }
+written-one k x l h = record { bytes = put-byte k x l h; behind = refl }
 
 -- ---- a list of bytes, from its first on
 module _ (k : ℕ) (xs l : List ℕ) (room : Room k xs l) where

@@ -4,6 +4,7 @@ use mathlib.Core.List.{List, [], _∷_, _++_}
 use Prim.Native.Nat.{ℕ, _≤_}
 use lib.ListN.{length}
 use Rattle.words.specs.Bytes.{recordBytes}
+use Rattle.records.specs.Layout.{keyLayout, setLayout}
 use Rattle.verdicts.specs.Verdict.{Judges, judges}
 use Rattle.text.specs.Text.{drawText}
 
@@ -11,16 +12,14 @@ use Rattle.text.specs.Text.{drawText}
 abbrev pub TextFits : Type 0
 TextFits = (J : Judges) (s b : List ℕ) → length (drawText J s b) ≤ 1024
 
--- ---- the example round: group 1, n = 2, t = 1, and a board of the keys 12 and 9
+-- ---- the scope paper's round: group 1, n = 2, t = 1, and a board of the keys 12 and 9
 -- its round.set
 abbrev pub exampleSet : List ℕ
-exampleSet = recordBytes (record { w0 = 9; w1 = 1; w2 = 2; w3 = 1; w4 = 0; w5 = 0; w6 = 0; w7 = 0 })
+exampleSet = recordBytes (setLayout 1 2 1)
 
 -- its board.bin
 abbrev pub exampleBoard : List ℕ
-exampleBoard =
-    recordBytes (record { w0 = 1; w1 = 0; w2 = 1; w3 = 12; w4 = 0; w5 = 0; w6 = 0; w7 = 0 })
-    ++ recordBytes (record { w0 = 1; w1 = 0; w2 = 2; w3 = 9; w4 = 0; w5 = 0; w6 = 0; w7 = 0 })
+exampleBoard = recordBytes (keyLayout 1 12) ++ recordBytes (keyLayout 2 9)
 
 -- "round 1 2 1", "dealer 1 none", "dealer 2 none", "accepted 0", "refused 14", each with the end of a line
 abbrev pub exampleText : List ℕ

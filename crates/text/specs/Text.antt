@@ -1,19 +1,19 @@
 -- What `draw` prints: the one place where the format of its output stands.
-use mathlib.Core.Bool.{Bool, _&&_}
 use mathlib.Core.List.{List, [], _∷_, _++_}
 use Prim.Native.Nat.{ℕ, zero, suc, _+_, _/_, _%_}
 use lib.ListN.{length}
 use lib.Dec.{ltb, eqb}
 use Rattle.words.specs.Choice.{pick}
-use Rattle.words.specs.Checks.{Check, _unless_, Outcome, value, refused, refusal}
+use Rattle.words.specs.Checks.{Check, _unless_, Outcome, value, refused, outcome}
 use Rattle.words.specs.Bytes.{recordIn}
-use Rattle.words.specs.declared.Record.{Record}
 use Rattle.group.specs.declared.Element.{Element}
+use Rattle.sharing.specs.Setting.{judged}
 use Rattle.sharing.specs.declared.Round.{Round}
-use Rattle.posted.specs.Records.{isSpare}
+use Rattle.sharing.specs.declared.Setting.{Setting}
+use Rattle.records.specs.Layout.{setGroup, setN, setT, isSetRecord, isRoundless}
 use Rattle.board.specs.Board.{boardChecks}
 use Rattle.verdicts.specs.Verdict.{Judges, verdictsOn}
-use Rattle.verdicts.specs.Draw.{countAccepted, drawOn}
+use Rattle.verdicts.specs.Draw.{countAccepted, drawIn}
 use Rattle.verdicts.specs.declared.Secret.{Secret}
 use Rattle.verdicts.specs.declared.Secret.the-variants.{Opened, Recovered, Stuck}
 use Rattle.verdicts.specs.declared.Verdict.{Verdict}
@@ -91,37 +91,45 @@ abbrev pub drawLine : Outcome Element → List ℕ
 drawLine (value v) = drawWord ++ (figure (v .0) ++ newLine)
 drawLine (refused k) = refusedLine k
 
--- the first line: group, n, t
-unfoldable pub roundLine : Round → List ℕ
-roundLine R = (roundWord ++ figure (R .group)) ++ (figure (R .n) ++ (figure (R .t) ++ newLine))
+-- the first line: the group's number, n, t
+unfoldable pub roundLine : Setting → List ℕ
+roundLine S = (roundWord ++ figure (S .number)) ++ (figure (S .n) ++ (figure (S .t) ++ newLine))
 
 -- the count of accepted dealings
 unfoldable pub acceptedLine : ℕ → List ℕ
 acceptedLine m = acceptedWord ++ (figure m ++ newLine)
 
 -- ---- the text
+-- of what an operation answers: only the refusal where it refuses
+abbrev pub textOf : Outcome (List ℕ) → List ℕ
+textOf (value t) = t
+textOf (refused k) = refusedLine k
+
 -- of a board whose verdicts are reached
-unfoldable pub report : Judges → Round → List ℕ → List ℕ
-report J R b =
-    roundLine R ++ (dealerLines 1 (verdictsOn J R b) ++ (acceptedLine (countAccepted (verdictsOn J R b)) ++ drawLine (drawOn J R b)))
+unfoldable pub report : Judges → Setting → List ℕ → List ℕ
+report J S b =
+    roundLine S ++ (dealerLines 1 (verdictsOn J S b) ++ (acceptedLine (countAccepted (verdictsOn J S b)) ++ drawLine (drawIn J S b)))
 
--- of a board: only its refusal where a check before the verdicts refuses
+-- of a board, in a setting and over a round
+unfoldable pub boardTextIn : Judges → Setting → List ℕ → List ℕ
+boardTextIn J S b = textOf (outcome (boardChecks S b) (report J S b))
+
 unfoldable pub boardText : Judges → Round → List ℕ → List ℕ
-boardText J R b = pick (eqb (refusal (boardChecks R b)) 0) (report J R b) (refusedLine (refusal (boardChecks R b)))
+boardText J R b = textOf (judged R (λ S. boardChecks S b) (λ S. report J S b))
 
--- ---- round.set: one record, 9, group, n, t, zeros
--- kind 9, the words behind t spare
-unfoldable pub isSetRecord : Record → Bool
-isSetRecord r = eqb (r .w0) 9 && isSpare r
-
+-- ---- round.set: one record
 -- another length by 3, another shape by 4
 abbrev pub setChecks : List ℕ → List Check
-setChecks s = 3 unless eqb (length s) 32 ∷ 4 unless isSetRecord (recordIn s) ∷ []
+setChecks s =
+    3 unless eqb (length s) 32
+    ∷ 4 unless isSetRecord (recordIn s)
+    ∷ 4 unless isRoundless (recordIn s)
+    ∷ []
 
 -- the round of its record
 abbrev pub roundIn : List ℕ → Round
-roundIn s = record { group = recordIn s .w1; n = recordIn s .w2; t = recordIn s .w3 }
+roundIn s = record { group = setGroup (recordIn s); n = setN (recordIn s); t = setT (recordIn s) }
 
 -- of the bytes of round.set and board.bin
 unfoldable pub drawText : Judges → List ℕ → List ℕ → List ℕ
-drawText J s b = pick (eqb (refusal (setChecks s)) 0) (boardText J (roundIn s) b) (refusedLine (refusal (setChecks s)))
+drawText J s b = textOf (outcome (setChecks s) (boardText J (roundIn s) b))

@@ -3,28 +3,26 @@ ghost use mathlib.Core.Path.{_≡_};
 ghost use mathlib.Core.List.{_++_};
 ghost use lib.ListN.{length, drop};
 ghost use Rattle.words.specs.Checks.{refusal};
+ghost use Rattle.sharing.specs.Setting.{ProperSetting};
 ghost use Rattle.verdicts.specs.Verdict.{judges};
-ghost use Rattle.text.specs.Text.{isSetRecord, setChecks, boardText, drawText};
+ghost use Rattle.text.specs.Text.{setChecks, boardTextIn, drawText};
 ghost use Rattle.text.specs.Buffer.{Written};
 
 mod buffer;
 mod lines;
 mod report;
 
-use board::board_refusal;
+use board::board_refusal_in;
 use lines::put_line;
+use records::is_roundless;
+use records::is_set_record;
 use report::put_report;
 use sharing::Round;
-use verdicts::judge_board;
-use words::Record;
+use sharing::Setting;
+use sharing::SettingAnswer;
+use sharing::setting_of;
+use verdicts::all_verdicts;
 use words::read_record;
-
-// One record of round.set: kind 9, and no word behind t.
-fn is_set_record(r: Record) -> bool
-    ensures { λ a. ⌜ a ≡ isSetRecord r ⌝ }
-{
-    r.w0 == 9 && r.w4 == 0 && r.w5 == 0 && r.w6 == 0 && r.w7 == 0
-}
 
 // What the bytes of round.set are refused by: 3 not one record; 4 another shape. 0 where they are not.
 fn set_refusal(set: &[u8]) -> u32
@@ -33,22 +31,27 @@ fn set_refusal(set: &[u8]) -> u32
     if set.len() != 32 {
         return 3;
     }
-    if !is_set_record(read_record(set)) {
+    let r = read_record(set);
+    if !is_set_record(r) {
+        return 4;
+    }
+    if !is_roundless(r) {
         return 4;
     }
     0
 }
 
-// Writes the text of a board at the start of `out`, and answers its length. Internal: callers lend 1,024 bytes.
-fn put_board(out: &mut [u8], rd: Round, board: &[u8]) -> usize
-    requires { ⌜ length (now out) ≡ 1024 ⌝ }
-    ensures { λ r. ⌜ Written 0 (boardText judges rd (now (board .entry))) (now (out .entry)) (now (out .exit)) r ⌝ }
+// Writes the text of a board in a setting at the start of `out`, and answers its length.
+// Internal: callers ensure that the setting is proper, and lend 1,024 bytes.
+fn put_board(out: &mut [u8], s: Setting, board: &[u8]) -> usize
+    requires { ⌜ (ProperSetting s) × (length (now out) ≡ 1024) ⌝ }
+    ensures { λ r. ⌜ Written 0 (boardTextIn judges s (now (board .entry))) (now (out .entry)) (now (out .exit)) r ⌝ }
 {
-    let k = board_refusal(rd, board);
+    let k = board_refusal_in(s, board);
     if k != 0 {
         return put_line(out, 0, b"refused", k);
     }
-    put_report(out, rd, judge_board(rd, board))
+    put_report(out, s, all_verdicts(s, board))
 }
 
 // Writes what `draw` prints for the bytes of round.set and of board.bin at the start of `out`, and answers how many bytes that is. The
@@ -67,5 +70,8 @@ pub fn draw_text(set: &[u8], board: &[u8], out: &mut [u8; 1024]) -> usize
         n: r.w2,
         t: r.w3,
     };
-    put_board(out, rd, board)
+    match setting_of(rd) {
+        SettingAnswer::Refused(k) => put_line(out, 0, b"refused", k),
+        SettingAnswer::Value(s) => put_board(out, s, board),
+    }
 }

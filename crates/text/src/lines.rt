@@ -6,7 +6,7 @@ ghost use Rattle.text.specs.Buffer.{Room, Written};
 use crate::buffer::put_bytes;
 use crate::buffer::put_figure;
 use group::ElementAnswer;
-use sharing::Round;
+use sharing::Setting;
 use verdicts::Secret;
 use verdicts::Verdict;
 
@@ -64,13 +64,13 @@ pub(crate) fn put_dealer(out: &mut [u8], at: usize, d: u32, v: Verdict) -> usize
 }
 
 // Writes the line of the round from `at` on. Internal: callers ensure room for it.
-pub(crate) fn put_round(out: &mut [u8], at: usize, rd: Round) -> usize
-    requires { ⌜ Room at (roundLine rd) (now out) ⌝ }
-    ensures { λ r. ⌜ Written at (roundLine rd) (now (out .entry)) (now (out .exit)) r ⌝ }
+pub(crate) fn put_round(out: &mut [u8], at: usize, s: Setting) -> usize
+    requires { ⌜ Room at (roundLine s) (now out) ⌝ }
+    ensures { λ r. ⌜ Written at (roundLine s) (now (out .entry)) (now (out .exit)) r ⌝ }
 {
-    let a = put_worded(out, at, b"round", rd.group);
-    let b = put_figure(out, a, rd.n);
-    let c = put_figure(out, b, rd.t);
+    let a = put_worded(out, at, b"round", s.number);
+    let b = put_figure(out, a, s.n);
+    let c = put_figure(out, b, s.t);
     put_bytes(out, c, b"\n")
 }
 

@@ -6,11 +6,11 @@ use words::Record;
 
 pub(crate) fn run(case: Record, space: &[u8]) {
     let vs = payload::list(space, 0);
-    let cs = payload::list(space, case.w4 as usize);
+    let ds = payload::list(space, case.w4 as usize);
     let answer = sharing::degree_check(
         payload::round(case),
         payload::first(&vs, case.w4),
-        payload::first(&cs, case.w5),
+        payload::first(&ds, case.w5),
     );
     print::check(b"degree ", answer);
 }

@@ -8,8 +8,9 @@ use words::Record;
 pub(crate) fn run(case: Record, space: &[u8]) {
     let figures = payload::figures(space);
     let y = Element(figures.w0);
-    let e = Element(figures.w1);
+    let encrypted = Element(figures.w1);
     let record = payload::part(space, 8, case.w6 as usize);
-    let answer = opened::judge_share(payload::round(case), case.w4, case.w5, y, e, record);
+    let rd = payload::round(case);
+    let answer = share::judge_share(rd, case.w4, case.w5, y, encrypted, record);
     print::element(b"judge_share ", answer);
 }

@@ -13,13 +13,13 @@ pub(crate) fn run(case: Record, space: &mut [u8]) {
     }
     let from = 4 + figures.w1 as usize;
     let ys = payload::list(space, 4);
-    let cs = payload::list(space, from);
+    let f = payload::list(space, from);
     let ws = payload::list(space, from + figures.w2 as usize);
-    let answer = dealt::write_dealing(
+    let answer = dealing::write_dealing(
         payload::round(case),
         case.w4,
         payload::first(&ys, figures.w1),
-        payload::first(&cs, figures.w2),
+        payload::first(&f, figures.w2),
         payload::first(&ws, figures.w3),
         &mut space[0..size],
     );

@@ -12,10 +12,17 @@ pub(crate) fn run(case: Record, space: &mut [u8]) {
         return print::no_case();
     }
     let figures = payload::figures(space);
-    let e = Element(figures.w0);
+    let encrypted = Element(figures.w0);
     let x = Exponent(figures.w1);
     let w = Exponent(figures.w2);
-    let rd = payload::round(case);
-    let answer = opened::write_share(rd, case.w4, case.w5, e, x, w, &mut space[0..size]);
+    let answer = share::write_share(
+        payload::round(case),
+        case.w4,
+        case.w5,
+        encrypted,
+        x,
+        w,
+        &mut space[0..size],
+    );
     print::written(b"write_share ", answer, payload::part(space, 0, size));
 }

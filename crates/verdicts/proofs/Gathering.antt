@@ -9,14 +9,13 @@ use lib.ListN.{length, take, set, replicate, length-take, length-append}
 use lib.Seq.{take-nil, take-append-le}
 use Rattle.words.specs.Choice.{pick}
 use Rattle.words.specs.Lists.{map, upFrom, filled}
-use Rattle.words.proofs.Lists.{map-length, filled-none, filled-next}
-use Rattle.sharing.specs.declared.Round.{Round}
-use Rattle.posted.specs.Records.{recordAt}
-use Rattle.posted.proofs.Filled.{up-last, map-append}
+use Rattle.words.proofs.Lists.{map-length, map-append, up-last, filled-none, filled-next}
+use Rattle.sharing.specs.declared.Setting.{Setting}
+use Rattle.records.specs.Layout.{memberOf, ZOf, recordAt}
 use Rattle.board.specs.Search.{filter}
 use Rattle.verdicts.specs.Verdict.{Judges, isShareBy, sharesBy}
-use Rattle.verdicts.specs.Lowest.{withShare, heldOf, lowestBy}
-use Rattle.verdicts.specs.declared.Lowest.{Lowest}
+use Rattle.verdicts.specs.Gathered.{withShare, heldOf, lowestBy}
+use Rattle.verdicts.specs.declared.GatheredShares.{GatheredShares}
 
 -- ---- the first t of a list
 take-room : (t : ℕ) (xs : List ℕ) (x : ℕ) → length (take t xs) < t → take t (xs ++ (x ∷ [])) ≡ take t xs ++ (x ∷ [])
@@ -38,12 +37,12 @@ up-more s (suc k) m =
 module _ (f : ℕ → Bool) (s : ℕ) where
   filter-append : (xs ys : List ℕ) → filter f (xs ++ ys) ≡ filter f xs ++ filter f ys
   filter-append [] ys = refl
-  filter-append (x ∷ xs) ys = by (f x) (filter-append xs ys)
+  filter-append (x ∷ xs) ys = by-test (f x) (filter-append xs ys)
     where
-      by : (b : Bool) → filter f (xs ++ ys) ≡ filter f xs ++ filter f ys
+      by-test : (b : Bool) → filter f (xs ++ ys) ≡ filter f xs ++ filter f ys
           → pick b (x ∷ filter f (xs ++ ys)) (filter f (xs ++ ys)) ≡ pick b (x ∷ filter f xs) (filter f xs) ++ filter f ys
-      by true e = ap (λ (l : List ℕ). x ∷ l) e
-      by false e = e
+      by-test true e = ap (λ (l : List ℕ). x ∷ l) e
+      by-test false e = e
 
   abbrev passing : ℕ → List ℕ
   passing k = filter f (upFrom s k)
@@ -68,53 +67,53 @@ module _ (f : ℕ → Bool) (s : ℕ) where
 
 -- ---- one more, held behind the others
 held-more : (b is : List ℕ) (i : ℕ) → length is < 31
-    → record { members = set (heldOf b is .members) (length is) (recordAt b i .w2); shares = set (heldOf b is .shares) (length is) (recordAt b i .w3); count = length is + 1 }
+    → record { members = set (heldOf b is .members) (length is) (memberOf (recordAt b i)); shares = set (heldOf b is .shares) (length is) (ZOf (recordAt b i)); count = length is + 1 }
     ≡ heldOf b (is ++ (i ∷ []))
 unfolding heldOf
 held-more b is i h =
     let more : (g : ℕ → ℕ) → set (filled 31 (map g is)) (length is) (g i) ≡ filled 31 (map g (is ++ (i ∷ []))) =
     λ g. filled-next 31 (length is) (map g is) (map-length g is) refl (g i) h (sym (map-append g is (i ∷ []))) in
-    λ j. record { members = more (λ i. recordAt b i .w2) j; shares = more (λ i. recordAt b i .w3) j; count = sym (length-append is (i ∷ [])) j }
+    λ j. record { members = more (λ i. memberOf (recordAt b i)) j; shares = more (λ i. ZOf (recordAt b i)) j; count = sym (length-append is (i ∷ [])) j }
 
 -- ---- the loop
-module _ (J : Judges) (R : Round) (b : List ℕ) (d s : ℕ) where
-  abbrev pub heldAt : ℕ → Lowest
-  heldAt k = heldOf b (lowest (isShareBy J R b d) s (R .t) k)
+module _ (J : Judges) (S : Setting) (b : List ℕ) (d s : ℕ) where
+  abbrev pub heldAt : ℕ → GatheredShares
+  heldAt k = heldOf b (lowest (isShareBy J S b d) s (S .t) k)
 
   pub held-none : record { members = replicate 31 0; shares = replicate 31 0; count = 0 } ≡ heldAt 0
   unfolding heldOf
   held-none =
-      let e : [] ≡ lowest (isShareBy J R b d) s (R .t) 0 = sym (take-nil (R .t)) in
-      λ j. record { members = (filled-none 31 ∙ ap (λ (is : List ℕ). filled 31 (map (λ i. recordAt b i .w2) is)) e) j; shares = (filled-none 31 ∙ ap (λ (is : List ℕ). filled 31 (map (λ i. recordAt b i .w3) is)) e) j; count = length (e j) }
+      let e : [] ≡ lowest (isShareBy J S b d) s (S .t) 0 = sym (take-nil (S .t)) in
+      λ j. record { members = (filled-none 31 ∙ ap (λ (is : List ℕ). filled 31 (map (λ i. memberOf (recordAt b i)) is)) e) j; shares = (filled-none 31 ∙ ap (λ (is : List ℕ). filled 31 (map (λ i. ZOf (recordAt b i)) is)) e) j; count = length (e j) }
 
-  module _ (k : ℕ) {A : Lowest} (e : A ≡ heldAt k) where
-    held-count : A .count ≡ length (lowest (isShareBy J R b d) s (R .t) k)
+  module _ (k : ℕ) {A : GatheredShares} (e : A ≡ heldAt k) where
+    held-count : A .count ≡ length (lowest (isShareBy J S b d) s (S .t) k)
     unfolding heldOf
-    held-count = ap (λ (B : Lowest). B .count) e
+    held-count = ap (λ (B : GatheredShares). B .count) e
 
-    pub held-next : R .t ≤ 31 → A .count < R .t → withShare J R b d (s + k) A ≡ heldAt (k + 1)
+    pub held-next : S .t ≤ 31 → A .count < S .t → withShare J S b d (s + k) A ≡ heldAt (k + 1)
     unfolding withShare heldOf
-    held-next l h = ap (withShare J R b d (s + k)) e ∙ by (isShareBy J R b d (s + k)) refl
+    held-next l h = ap (withShare J S b d (s + k)) e ∙ by-test (isShareBy J S b d (s + k)) refl
       where
         is : List ℕ
-        is = lowest (isShareBy J R b d) s (R .t) k
+        is = lowest (isShareBy J S b d) s (S .t) k
 
-        by : (x : Bool) → isShareBy J R b d (s + k) ≡ x
+        by-test : (x : Bool) → isShareBy J S b d (s + k) ≡ x
             → pick x
-            (record { members = set (heldOf b is .members) (length is) (recordAt b (s + k) .w2); shares = set (heldOf b is .shares) (length is) (recordAt b (s + k) .w3); count = length is + 1 })
+            (record { members = set (heldOf b is .members) (length is) (memberOf (recordAt b (s + k))); shares = set (heldOf b is .shares) (length is) (ZOf (recordAt b (s + k))); count = length is + 1 })
             (heldOf b is)
             ≡ heldAt (k + 1)
-        by true p = held-more b is (s + k) (omega (arith, held-count)) ∙ ap (heldOf b) (sym (lowest-more (isShareBy J R b d) s (R .t) k p (omega (arith, held-count))))
-        by false p = ap (heldOf b) (sym (lowest-same (isShareBy J R b d) s (R .t) k p))
+        by-test true p = held-more b is (s + k) (omega (arith, held-count)) ∙ ap (heldOf b) (sym (lowest-more (isShareBy J S b d) s (S .t) k p (omega (arith, held-count))))
+        by-test false p = ap (heldOf b) (sym (lowest-same (isShareBy J S b d) s (S .t) k p))
 
     -- all n of the shares are seen, or t are found
-    module _ (n : ℕ) (all : filter (isShareBy J R b d) (upFrom s n) ≡ sharesBy J R b d) where
-      pub held-all : k ≡ n → A ≡ lowestBy J R b d
+    module _ (n : ℕ) (all : filter (isShareBy J S b d) (upFrom s n) ≡ sharesBy J S b d) where
+      pub held-all : k ≡ n → A ≡ lowestBy J S b d
       unfolding lowestBy
-      held-all h = e ∙ ap heldAt h ∙ ap (λ (is : List ℕ). heldOf b (take (R .t) is)) all
+      held-all h = e ∙ ap heldAt h ∙ ap (λ (is : List ℕ). heldOf b (take (S .t) is)) all
 
-      pub held-full : (m : ℕ) → k + m ≡ n → R .t ≤ A .count → A ≡ lowestBy J R b d
+      pub held-full : (m : ℕ) → k + m ≡ n → S .t ≤ A .count → A ≡ lowestBy J S b d
       unfolding lowestBy
       held-full m h l =
-          e ∙ ap (heldOf b) (sym (lowest-full (isShareBy J R b d) s (R .t) k m (omega (arith, held-count)))) ∙ ap heldAt h
-          ∙ ap (λ (is : List ℕ). heldOf b (take (R .t) is)) all
+          e ∙ ap (heldOf b) (sym (lowest-full (isShareBy J S b d) s (S .t) k m (omega (arith, held-count)))) ∙ ap heldAt h
+          ∙ ap (λ (is : List ℕ). heldOf b (take (S .t) is)) all

@@ -1,74 +1,81 @@
--- The board judge's answer: refused before the verdicts by the number of the first check that is not met, else by the tally of all dealers.
-use mathlib.Core.Path.{_≡_, sym, ap, _∙_}
-use mathlib.Core.Bool.{Bool, true, false}
-use mathlib.Core.List.{List, _++_}
-use mathlib.Core.Logic.{⊎-elim}
+-- The board judge's answer: refused before the verdicts by the number of the first check that is not met, else by what all dealers give.
+use mathlib.Core.Path.{_≡_, sym, _∙_}
+use mathlib.Core.Bool.{Bool}
+use mathlib.Core.List.{List}
 use Prim.Native.Nat.{ℕ}
-use native.Mathlib.Omega.{arith}
-use borrow.Author.Tests.{eq-eqb, ne-eqb}
-use lib.Dec.{eqb}
-use Rattle.words.specs.Checks.{Met, FirstUnmet, refused, refusal, outcome}
-use Rattle.words.proofs.Tests.{pick-true, pick-false}
-use Rattle.words.proofs.Checks.{refusal-append, none-exactly}
+use Rattle.words.specs.Checks.{Check, Met, refusal, outcome}
+use Rattle.words.proofs.Checks.{if-met}
+use Rattle.words.proofs.Stages.{rest-outcome, stage-refused, last-kept}
 use Rattle.group.specs.Answer.{elementOutcomeOf}
 use Rattle.group.specs.declared.Element.{Element}
 use Rattle.group.specs.declared.ElementAnswer.{ElementAnswer}
-use Rattle.group.specs.declared.Group.{Group}
-use Rattle.sharing.specs.Round.{groupIn, roundChecks}
+use Rattle.sharing.specs.Setting.{settingOutcomeOf, settingOutcome}
 use Rattle.sharing.specs.declared.Round.{Round}
-use Rattle.board.specs.Board.{formChecks, keyChecks, boardChecks}
-use Rattle.verdicts.specs.Verdict.{judges, verdictOn, verdictsOn}
-use Rattle.verdicts.specs.Draw.{countAccepted, secretsProduct, endChecks, drawOf, drawOn, seatsOf, noSeats, refusedBoard, JudgedAs}
-use Rattle.verdicts.specs.declared.Seat.{Seat}
-use Rattle.board.proofs.Numbers.{board-numbered}
-use Rattle.verdicts.proofs.Seats.{Tallied, all-seats, all-counted, all-stuck, all-secrets}
+use Rattle.sharing.specs.declared.Setting.{Setting}
+use Rattle.sharing.specs.declared.SettingAnswer.{SettingAnswer}
+use Rattle.sharing.specs.declared.SettingAnswer.the-variants.{Value, Refused}
+use Rattle.sharing.proofs.Rounds.{judged-refused, judged-value, judged-kept, judged-lent}
+use Rattle.board.specs.Board.{boardChecks}
+use Rattle.verdicts.specs.Verdict.{Judges, verdictOn, verdictsOn}
+use Rattle.verdicts.specs.Draw.{countAccepted, endChecks, drawChecks, drawOf, boardDrawChecks, boardProduct, drawOn, verdictPlaces, noVerdicts, refusedBoard, JudgementIn, JudgementOf}
+use Rattle.verdicts.specs.declared.DealerVerdict.{DealerVerdict}
+use Rattle.verdicts.specs.declared.Judgement.{Judgement}
+use Rattle.verdicts.proofs.Turns.{DealersAbove, all-verdicts, all-counted, all-stuck, all-secrets}
 
-module _ (R : Round) (b : List ℕ) where
-  pub reached-met : refusal (boardChecks R b) ≡ 0 → Met (boardChecks R b)
-  reached-met = none-exactly (boardChecks R b) (board-numbered R b) .0
+module _ (J : Judges) (b : List ℕ) where
+  abbrev checks : Setting → List Check
+  checks S = boardChecks S b
 
-  pub judged-refused : (k : ℕ) → refusal (boardChecks R b) ≡ k → (k ≡ 0 → ⊥) → JudgedAs judges R b (refusedBoard k)
-  unfolding refusedBoard drawOn
-  judged-refused k e n =
-      let z : eqb (refusal (boardChecks R b)) 0 ≡ false = ne-eqb (refusal (boardChecks R b)) 0 (λ s. n (sym e ∙ s)) in
-      record {
-        seats = sym (pick-false (eqb (refusal (boardChecks R b)) 0) (seatsOf (verdictOn judges R b) (R .n)) noSeats z);
-        accepted = sym (pick-false (eqb (refusal (boardChecks R b)) 0) (countAccepted (verdictsOn judges R b)) 0 z);
-        draw =
-            ap refused (sym e)
-            ∙ sym
-            (pick-false (eqb (refusal (boardChecks R b)) 0) (drawOf (groupIn R .p) (R .t) (verdictsOn judges R b)) (refused (refusal (boardChecks R b))) z);
-      }
+  abbrev verdicts : Setting → List DealerVerdict
+  verdicts S = verdictPlaces (verdictOn J S b) (S .n)
 
-  pub round-judged : (k : ℕ) → FirstUnmet k (roundChecks R) → JudgedAs judges R b (refusedBoard k)
-  round-judged k u =
-      judged-refused k (refusal-append (roundChecks R) (formChecks (R .n) b ++ keyChecks R b) k u)
-      (λ z. ⊎-elim (λ w. omega (arith, w .1)) (λ w. ⊎-elim (λ x. omega (arith, x .1)) (λ x. x .1) (w .1)) u)
+  abbrev accepted : Setting → ℕ
+  accepted S = countAccepted (verdictsOn J S b)
 
-  module _ (m : Met (boardChecks R b)) where
-    none-refused : eqb (refusal (boardChecks R b)) 0 ≡ true
-    none-refused = eq-eqb (refusal (boardChecks R b)) 0 (none-exactly (boardChecks R b) (board-numbered R b) .1 m)
+  abbrev draws : Setting → List Check
+  draws S = boardDrawChecks J S b
 
-    pub tallied-judged : (G : Group) → groupIn R ≡ G → (d : ℕ) (seats : List Seat) (accepted : ℕ) (stuck : Bool) (product : Element)
-        → Tallied (verdictOn judges R b) (G .p) (R .n) d seats accepted stuck (product .0) → d ≡ 0
-        → (a : ElementAnswer) → elementOutcomeOf a ≡ outcome (endChecks (R .t) accepted stuck) product
-        → JudgedAs judges R b (record { seats = seats; accepted = accepted; draw = a })
-    unfolding drawOn drawOf
-    tallied-judged G g d seats accepted stuck product T z a e =
-        let w = verdictOn judges R b in
-        let c = all-counted w (G .p) (R .n) d seats accepted stuck (product .0) T z in
-        let s = all-stuck w (G .p) (R .n) d seats accepted stuck (product .0) T z in
-        let x : product .0 ≡ secretsProduct (groupIn R .p) (verdictsOn judges R b) =
-        all-secrets w (G .p) (R .n) d seats accepted stuck (product .0) T z
-        ∙ ap (λ (H : Group). secretsProduct (H .p) (verdictsOn judges R b)) (sym g) in
-        record {
-          seats =
-              all-seats w (G .p) (R .n) d seats accepted stuck (product .0) T z
-              ∙ sym (pick-true (eqb (refusal (boardChecks R b)) 0) (seatsOf w (R .n)) noSeats none-refused);
-          accepted = c ∙ sym (pick-true (eqb (refusal (boardChecks R b)) 0) (countAccepted (verdictsOn judges R b)) 0 none-refused);
-          draw =
-              e
-              ∙ (λ j. outcome (endChecks (R .t) (c j) (s j)) (record { 0 = x j }))
-              ∙ sym
-              (pick-true (eqb (refusal (boardChecks R b)) 0) (drawOf (groupIn R .p) (R .t) (verdictsOn judges R b)) (refused (refusal (boardChecks R b))) none-refused);
-        }
+  abbrev product : Setting → Element
+  product S = boardProduct J S b
+
+  -- ---- over a round, by the answer r of the function that gives its setting
+  module _ (R : Round) {r : SettingAnswer} (e : settingOutcomeOf r ≡ settingOutcome R) where
+    pub round-judged : {k : ℕ} → r ≡ Refused k → JudgementOf J R b (refusedBoard k)
+    unfolding refusedBoard drawOn
+    round-judged f = record { verdicts = judged-kept R checks verdicts e f noVerdicts; accepted = judged-kept R checks accepted e f 0; draw = judged-refused R draws product e f }
+
+    module _ (S : Setting) (f : r ≡ Value S) where
+      pub board-judged : {k : ℕ} → k ≡ refusal (checks S) → (k ≡ 0 → ⊥) → JudgementOf J R b (refusedBoard k)
+      unfolding refusedBoard drawOn
+      board-judged h n =
+          record {
+            verdicts = last-kept (checks S) h n (verdicts S) noVerdicts ∙ judged-lent R checks verdicts e f noVerdicts;
+            accepted = last-kept (checks S) h n (accepted S) 0 ∙ judged-lent R checks accepted e f 0;
+            draw = stage-refused (checks S) h (drawChecks (S .t) (verdictsOn J S b)) n (product S) ∙ judged-value R draws product e f;
+          }
+
+      pub verdicts-judged : Met (checks S) → {A : Judgement} → JudgementIn J S b A → JudgementOf J R b A
+      unfolding drawOf drawOn
+      verdicts-judged m I =
+          record {
+            verdicts = I .verdicts ∙ sym (if-met (verdicts S) noVerdicts (checks S) m) ∙ judged-lent R checks verdicts e f noVerdicts;
+            accepted = I .accepted ∙ sym (if-met (accepted S) 0 (checks S) m) ∙ judged-lent R checks accepted e f 0;
+            draw = I .draw ∙ rest-outcome (checks S) (drawChecks (S .t) (verdictsOn J S b)) m (product S) ∙ judged-value R draws product e f;
+          }
+
+-- ---- in a setting, by what all dealers give
+pub above-judged : (J : Judges) (S : Setting) (b : List ℕ) (d : ℕ) (verdicts : List DealerVerdict) (accepted : ℕ) (stuck : Bool) (product : Element)
+    → DealersAbove (verdictOn J S b) (S .group .p) (S .n) d verdicts accepted stuck (product .0) → d ≡ 0
+    → (a : ElementAnswer) → elementOutcomeOf a ≡ outcome (endChecks (S .t) accepted stuck) product
+    → JudgementIn J S b (record { verdicts = verdicts; accepted = accepted; draw = a })
+unfolding drawOf
+above-judged J S b d verdicts accepted stuck product T z a e =
+    let w = verdictOn J S b in
+    let c = all-counted w (S .group .p) (S .n) d verdicts accepted stuck (product .0) T z in
+    let s = all-stuck w (S .group .p) (S .n) d verdicts accepted stuck (product .0) T z in
+    let x = all-secrets w (S .group .p) (S .n) d verdicts accepted stuck (product .0) T z in
+    record {
+      verdicts = all-verdicts w (S .group .p) (S .n) d verdicts accepted stuck (product .0) T z;
+      accepted = c;
+      draw = e ∙ (λ j. outcome (endChecks (S .t) (c j) (s j)) (record { 0 = x j }));
+    }

@@ -1,7 +1,7 @@
--- Laws that the proofs of the code share.
+-- Laws that the functions' proofs share.
 pub mod Gathering
 pub mod ShareAnswers
 pub mod Secrets
 pub mod VerdictAnswers
-pub mod Seats
+pub mod Turns
 pub mod Judgements

@@ -1,128 +1,143 @@
 -- Recovery from the members and shares found: their members are below q, and there are t of them exactly if t or more shares are accepted.
-use mathlib.Core.Path.{_≡_, sym, ap, _∙_, subst}
+-- Then the opening: for the commitments of accepted lines its figure and its equation decide.
+use mathlib.Core.Path.{_≡_, refl, sym, ap, _∙_, subst}
 use mathlib.Core.Bool.{Bool, true, false, _&&_}
-use mathlib.Core.List.{List, [], _∷_}
-use Prim.Native.Nat.{ℕ, zero, suc, _-_, _<_, _≤_}
+use mathlib.Core.List.{List}
+use Prim.Native.Nat.{ℕ, _<_, _≤_}
 use native.Mathlib.Omega.{arith}
-use native.Mathlib.Nat.{sub-zero}
-use borrow.Author.Tests.{lt-ltb, le-ltb, ltb-true}
+use borrow.Author.Tests.{lt-ltb, le-ltb, ltb-true, eq-eqb}
 use lib.ListN.{length, take, length-take}
 use lib.Dec.{ltb}
+use Rattle.words.specs.Choice.{pick}
 use Rattle.words.specs.Lists.{Below, map, upFrom}
+use Rattle.words.specs.Checks.{value, refused, isValue}
 use Rattle.words.proofs.Lists.{All-to, All-take, map-all, map-length, filled-front}
 use Rattle.words.proofs.Tests.{and-true, pick-true, pick-false}
 use Rattle.group.specs.Power.{pow}
-use Rattle.group.specs.declared.Group.{Group}
-use Rattle.sharing.specs.Round.{groupIn, members}
-use Rattle.sharing.specs.Answer.{openingOutcome, recovered}
-use Rattle.sharing.specs.Carried.{isValue}
-use Rattle.sharing.specs.declared.Round.{Round}
-use Rattle.posted.specs.Records.{recordAt, wordOf}
-use Rattle.dealing.specs.Dealing.{vIn, vsIn}
+use Rattle.group.specs.Element.{isExponent}
+use Rattle.sharing.specs.Answer.{openingFigures, openingEquation, openingIn, isOpening, recovered}
+use Rattle.sharing.specs.Carried.{Commitments}
+use Rattle.sharing.specs.declared.Setting.{Setting}
+use Rattle.records.specs.Layout.{memberOf, uOf, ZOf, recordAt}
+use Rattle.dealing.specs.Dealing.{vsIn}
+use Rattle.dealing.proofs.Judged.{accepted-passes}
 use Rattle.board.specs.Search.{filter, recordsIn}
-use Rattle.board.specs.Board.{linesOf, openingRecord}
-use Rattle.verdicts.specs.Verdict.{Judges, Dealt, commitmentsOf, isShareBy, sharesBy, fromShares, isOpened, secretBy}
-use Rattle.verdicts.specs.Lowest.{heldOf, lowestBy}
-use Rattle.verdicts.specs.declared.Lowest.{Lowest}
-use Rattle.verdicts.specs.declared.Secret.the-variants.{Opened, Recovered, Stuck}
+use Rattle.board.specs.Board.{keysIn, linesOf, openingRecord}
 use Rattle.board.proofs.Searches.{filter-up}
 use Rattle.board.proofs.Order.{reached, shapes}
-use Rattle.verdicts.proofs.ShareAnswers.{dealt-ready}
+use Rattle.verdicts.specs.Verdict.{Judges, LinesOn, commitmentsOf, isShareBy, sharesBy, fromShares, isOpened, secretBy}
+use Rattle.verdicts.specs.Gathered.{heldOf, lowestBy}
+use Rattle.verdicts.specs.declared.GatheredShares.{GatheredShares}
+use Rattle.verdicts.specs.declared.Secret.the-variants.{Opened, Recovered, Stuck}
 
 few-taken : (t : ℕ) (xs : List ℕ) → length (take t xs) < t → length xs < t
-few-taken zero xs h = absurd (omega arith)
-few-taken (suc t) [] h = h
-few-taken (suc t) (x ∷ xs) h = let s = few-taken t xs (omega arith) in omega arith
+few-taken t xs h = omega (arith, length-take t xs)
 
 all-taken : (t : ℕ) (xs : List ℕ) → t ≤ length (take t xs) → t ≤ length xs
-all-taken zero xs h = omega arith
-all-taken (suc t) [] h = h
-all-taken (suc t) (x ∷ xs) h = let s = all-taken t xs (omega arith) in omega arith
+all-taken t xs h = omega (arith, length-take t xs)
 
-full-taken : (k : ℕ) (l : List ℕ) → length (take k l) ≡ k → k ≤ length l
+pub full-taken : (k : ℕ) (l : List ℕ) → length (take k l) ≡ k → k ≤ length l
 full-taken k l e = omega (arith, length-take k l, e)
 
-module _ (J : Judges) {R : Round} {b : List ℕ} {d : ℕ} {lines : List ℕ} (D : Dealt R b d lines) where
-  members-low : Below (groupIn R .q) (map (λ i. recordAt b i .w2) (take (R .t) (sharesBy J R b d)))
+module _ (J : Judges) {S : Setting} {b : List ℕ} {d : ℕ} {lines : List ℕ} (L : LinesOn S b d lines) where
+  abbrev taken : List ℕ
+  taken = take (S .t) (sharesBy J S b d)
+
+  members-low : Below (S .group .q) (map (λ i. memberOf (recordAt b i)) taken)
   unfolding sharesBy
   members-low =
-      let F = reached R b (D .reached) .formed in
-      let is = filter (isShareBy J R b d) (upFrom 0 (recordsIn b)) in
-      map-all (λ i. recordAt b i .w2) (λ m. m < groupIn R .q) (take (R .t) is)
-      (All-take (λ i. recordAt b i .w2 < groupIn R .q) (R .t) is
-      (All-to is (λ i s. let z = shapes F i (omega (arith, s .0 .1)) .member in omega (arith, z, dealt-ready D .few)) (filter-up (isShareBy J R b d) 0 (recordsIn b))))
+      let form = reached S b (L .reached) .form in
+      let is = filter (isShareBy J S b d) (upFrom 0 (recordsIn b)) in
+      map-all (λ i. memberOf (recordAt b i)) (λ m. m < S .group .q) (take (S .t) is)
+      (All-take (λ i. memberOf (recordAt b i) < S .group .q) (S .t) is
+      (All-to is (λ i s. let z = shapes (S .n) b form i (omega (arith, s .0 .1)) .member in omega (arith, z, L .proper .n-below)) (filter-up (isShareBy J S b d) 0 (recordsIn b))))
 
-  abbrev taken : List ℕ
-  taken = take (R .t) (sharesBy J R b d)
-
-  module _ {A : Lowest} (L : A ≡ lowestBy J R b d) where
+  module _ {A : GatheredShares} (g : A ≡ lowestBy J S b d) where
     count-is : A .count ≡ length taken
     unfolding lowestBy heldOf
-    count-is = ap (λ (B : Lowest). B .count) L
+    count-is = ap (λ (B : GatheredShares). B .count) g
 
-    members-are : take (A .count) (A .members) ≡ map (λ i. recordAt b i .w2) taken
+    members-are : take (A .count) (A .members) ≡ map (λ i. memberOf (recordAt b i)) taken
     unfolding lowestBy heldOf
-    members-are = filled-front 31 (A .count) _ (map-length (λ i. recordAt b i .w2) taken ∙ sym count-is) (ap (λ (B : Lowest). B .members) L)
+    members-are = filled-front 31 (A .count) _ (map-length (λ i. memberOf (recordAt b i)) taken ∙ sym count-is) (ap (λ (B : GatheredShares). B .members) g)
 
-    shares-are : take (A .count) (A .shares) ≡ map (λ i. recordAt b i .w3) taken
+    shares-are : take (A .count) (A .shares) ≡ map (λ i. ZOf (recordAt b i)) taken
     unfolding lowestBy heldOf
-    shares-are = filled-front 31 (A .count) _ (map-length (λ i. recordAt b i .w3) taken ∙ sym count-is) (ap (λ (B : Lowest). B .shares) L)
+    shares-are = filled-front 31 (A .count) _ (map-length (λ i. ZOf (recordAt b i)) taken ∙ sym count-is) (ap (λ (B : GatheredShares). B .shares) g)
+
+    pub members-count : length (take (A .count) (A .members)) ≡ A .count
+    members-count = ap length members-are ∙ map-length (λ i. memberOf (recordAt b i)) taken ∙ sym count-is
+
+    pub shares-count : length (take (A .count) (A .shares)) ≡ A .count
+    shares-count = ap length shares-are ∙ map-length (λ i. ZOf (recordAt b i)) taken ∙ sym count-is
 
     pub members-room : A .count ≤ length (A .members)
-    members-room = full-taken _ _ (ap length members-are ∙ map-length (λ i. recordAt b i .w2) taken ∙ sym count-is)
+    members-room = full-taken _ _ members-count
 
     pub shares-room : A .count ≤ length (A .shares)
-    shares-room = full-taken _ _ (ap length shares-are ∙ map-length (λ i. recordAt b i .w3) taken ∙ sym count-is)
+    shares-room = full-taken _ _ shares-count
 
-    pub found-low : {G : Group} → groupIn R ≡ G → Below (G .q) (take (A .count - 0) (A .members))
-    found-low e =
-        subst (λ (H : Group). Below (H .q) (take (A .count - 0) (A .members))) e
-        (subst (Below (groupIn R .q)) (sym (ap (λ (k : ℕ). take k (A .members)) (sub-zero (A .count)) ∙ members-are)) members-low)
+    pub found-low : Below (S .group .q) (take (A .count) (A .members))
+    found-low = subst (Below (S .group .q)) (sym members-are) members-low
 
-    pub found-even : length (take (A .count - 0) (A .members)) ≡ length (take (A .count - 0) (A .shares))
-    found-even =
-        ap (λ (k : ℕ). length (take k (A .members))) (sub-zero (A .count)) ∙ ap length members-are ∙ map-length (λ i. recordAt b i .w2) taken
-        ∙ sym (ap (λ (k : ℕ). length (take k (A .shares))) (sub-zero (A .count)) ∙ ap length shares-are ∙ map-length (λ i. recordAt b i .w3) taken)
-
-    pub found-few : A .count < R .t → Stuck ≡ fromShares J R b d
+    pub found-few : A .count < S .t → Stuck ≡ fromShares J S b d
     unfolding fromShares
     found-few h =
-        sym (pick-true (ltb (length (sharesBy J R b d)) (R .t)) _ _ (lt-ltb _ _ (few-taken (R .t) (sharesBy J R b d) (omega (arith, count-is)))))
+        sym (pick-true (ltb (length (sharesBy J S b d)) (S .t)) _ _ (lt-ltb _ _ (few-taken (S .t) (sharesBy J S b d) (omega (arith, count-is)))))
 
-    pub found-enough : R .t ≤ A .count → {G : Group} {v : ℕ} → groupIn R ≡ G → v ≡ recovered G (take (A .count - 0) (A .members)) (take (A .count - 0) (A .shares))
-        → Recovered (record { 0 = v }) ≡ fromShares J R b d
+    pub found-enough : S .t ≤ A .count → {v : ℕ} → v ≡ recovered (S .group) (take (A .count) (A .members)) (take (A .count) (A .shares))
+        → Recovered (record { 0 = v }) ≡ fromShares J S b d
     unfolding fromShares
-    found-enough h {G} {v} e f =
-        let m = ap (λ (k : ℕ). take k (A .members)) (sub-zero (A .count)) ∙ members-are in
-        let s = ap (λ (k : ℕ). take k (A .shares)) (sub-zero (A .count)) ∙ shares-are in
-        (λ j. Recovered (record { 0 = (f ∙ (λ k. recovered (sym e k) (m k) (s k))) j }))
-        ∙ sym (pick-false (ltb (length (sharesBy J R b d)) (R .t)) _ _ (le-ltb _ _ (all-taken (R .t) (sharesBy J R b d) (omega (arith, count-is)))))
+    found-enough h f =
+        (λ j. Recovered (record { 0 = (f ∙ (λ k. recovered (S .group) (members-are k) (shares-are k))) j }))
+        ∙ sym (pick-false (ltb (length (sharesBy J S b d)) (S .t)) _ _ (le-ltb _ _ (all-taken (S .t) (sharesBy J S b d) (omega (arith, count-is)))))
 
 -- ---- the opening
-module _ (R : Round) (b : List ℕ) (d : ℕ) where
-  pub opened-none : recordsIn b ≤ openingRecord b d → false ≡ isOpened R b d
+-- for n elements its figure and its equation decide
+opening-decided : (S : Setting) (vs : List ℕ) (u : ℕ) → Commitments S vs → isValue (openingIn S vs u) ≡ isExponent (S .group) u && isOpening S vs u
+unfolding openingIn openingFigures openingEquation
+opening-decided S vs u C = simp (eq-eqb (length vs) (S .n) (C .size), C .elements) (by-test (isExponent (S .group) u) (isOpening S vs u))
+  where
+    by-test : (x y : Bool) → isValue {A = Unit {0}} (pick x (pick y (value tt) (refused 11)) (refused 7)) ≡ x && y
+    by-test true true = refl
+    by-test true false = refl
+    by-test false y = refl
+
+module _ (S : Setting) (b : List ℕ) (d : ℕ) where
+  abbrev opening : ℕ
+  opening = uOf (recordAt b (openingRecord b d))
+
+  pub opened-none : recordsIn b ≤ openingRecord b d → false ≡ isOpened S b d
   unfolding isOpened
-  opened-none h =
-      sym (ap (λ (t : Bool). t && isValue (openingOutcome R (commitmentsOf R b d) (recordAt b (openingRecord b d) .w3))) (le-ltb (openingRecord b d) (recordsIn b) h))
+  opened-none h = sym (ap (λ (t : Bool). t && isValue (openingIn S (commitmentsOf S b d) opening)) (le-ltb (openingRecord b d) (recordsIn b) h))
 
-  pub opened-told : {lines vs : List ℕ} {s : ℕ} → lines ≡ linesOf b d → openingRecord b d < recordsIn b
-      → vs ≡ map (wordOf 3 lines) (members (R .n)) → s ≡ recordAt b (openingRecord b d) .w3 → isValue (openingOutcome R vs s) ≡ isOpened R b d
-  unfolding isOpened vsIn vIn
-  opened-told {lines} {vs} {s} l h v e =
-      (λ j. isValue (openingOutcome R ((v ∙ ap (λ (x : List ℕ). map (wordOf 3 x) (members (R .n))) l) j) (e j)))
-      ∙ sym (ap (λ (t : Bool). t && isValue (openingOutcome R (commitmentsOf R b d) (recordAt b (openingRecord b d) .w3))) (lt-ltb (openingRecord b d) (recordsIn b) h))
+  module _ {lines : List ℕ} (L : LinesOn S b d lines) (h : openingRecord b d < recordsIn b) {u : ℕ} (e : u ≡ opening) where
+    told : isOpened S b d ≡ isExponent (S .group) u && isOpening S (commitmentsOf S b d) u
+    unfolding isOpened
+    told =
+        ap (λ (t : Bool). t && isValue (openingIn S (commitmentsOf S b d) opening)) (lt-ltb (openingRecord b d) (recordsIn b) h)
+        ∙ opening-decided S (commitmentsOf S b d) opening (accepted-passes S (L .proper) d (keysIn (S .n) b) (linesOf b d) (L .accepted) .0)
+        ∙ ap (λ (x : ℕ). isExponent (S .group) x && isOpening S (commitmentsOf S b d) x) (sym e)
 
-  pub opening-inside : isOpened R b d ≡ true → openingRecord b d < recordsIn b
+    pub opened-high : isExponent (S .group) u ≡ false → false ≡ isOpened S b d
+    opened-high f = sym (told ∙ ap (λ (t : Bool). t && isOpening S (commitmentsOf S b d) u) f)
+
+    pub opened-told : isExponent (S .group) u ≡ true → {vs : List ℕ} → vs ≡ vsIn (S .n) lines → isOpening S vs u ≡ isOpened S b d
+    opened-told f v =
+        ap (λ (l : List ℕ). isOpening S l u) (v ∙ ap (vsIn (S .n)) (L .part))
+        ∙ sym (told ∙ ap (λ (t : Bool). t && isOpening S (commitmentsOf S b d) u) f)
+
+  pub opening-inside : isOpened S b d ≡ true → openingRecord b d < recordsIn b
   unfolding isOpened
   opening-inside e = ltb-true _ _ (and-true (ltb (openingRecord b d) (recordsIn b)) _ e .0)
 
-  pub secret-shares : (J : Judges) → isOpened R b d ≡ false → fromShares J R b d ≡ secretBy J R b d
+  pub secret-shares : (J : Judges) → isOpened S b d ≡ false → fromShares J S b d ≡ secretBy J S b d
   unfolding secretBy
-  secret-shares J e = sym (pick-false (isOpened R b d) _ (fromShares J R b d) e)
+  secret-shares J e = sym (pick-false (isOpened S b d) _ (fromShares J S b d) e)
 
-  pub secret-opened : (J : Judges) → isOpened R b d ≡ true → {G : Group} {v s : ℕ} → groupIn R ≡ G → v ≡ pow (G .p) (G .h .0) s
-      → s ≡ recordAt b (openingRecord b d) .w3 → Opened (record { 0 = v }) ≡ secretBy J R b d
+  pub secret-opened : (J : Judges) → isOpened S b d ≡ true → {v u : ℕ} → v ≡ pow (S .group .p) (S .group .h .0) u → u ≡ opening
+      → Opened (record { 0 = v }) ≡ secretBy J S b d
   unfolding secretBy
-  secret-opened J e {G} {v} {s} g f h =
-      (λ j. Opened (record { 0 = (f ∙ (λ k. pow (sym g k .p) (sym g k .h .0) (h k))) j }))
-      ∙ sym (pick-true (isOpened R b d) _ (fromShares J R b d) e)
+  secret-opened J e f h =
+      (λ j. Opened (record { 0 = (f ∙ ap (pow (S .group .p) (S .group .h .0)) h) j }))
+      ∙ sym (pick-true (isOpened S b d) _ (fromShares J S b d) e)

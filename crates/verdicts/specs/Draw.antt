@@ -1,27 +1,28 @@
 -- The count of accepted dealings, the draw value, and the board judge's answer.
 use mathlib.Core.Path.{_≡_}
 use mathlib.Core.Bool.{Bool, true, false, not}
-use mathlib.Core.List.{List, [], _∷_}
+use mathlib.Core.List.{List, [], _∷_, _++_}
 use Prim.Native.Nat.{ℕ, _+_}
 use lib.ListN.{replicate}
-use lib.Dec.{leb, eqb}
+use lib.Dec.{leb}
 use Rattle.words.specs.Choice.{pick}
 use Rattle.words.specs.Lists.{map, upFrom}
-use Rattle.words.specs.Checks.{Check, _unless_, Outcome, refused, refusal, outcome}
+use Rattle.words.specs.Checks.{Check, _unless_, Outcome, outcome}
 use Rattle.field.specs.Residue.{mul}
 use Rattle.group.specs.Answer.{elementOutcomeOf}
 use Rattle.group.specs.declared.Element.{Element}
 use Rattle.group.specs.declared.ElementAnswer.the-variants as answer-variants
-use Rattle.sharing.specs.Round.{groupIn}
+use Rattle.sharing.specs.Setting.{judged, judgedElse}
 use Rattle.sharing.specs.declared.Round.{Round}
+use Rattle.sharing.specs.declared.Setting.{Setting}
 use Rattle.board.specs.Board.{boardChecks}
 use Rattle.verdicts.specs.Verdict.{Judges, verdictOn, verdictsOn}
 use Rattle.verdicts.specs.declared.Secret.{Secret}
 use Rattle.verdicts.specs.declared.Secret.the-variants.{Opened, Recovered, Stuck}
 use Rattle.verdicts.specs.declared.Verdict.{Verdict}
 use Rattle.verdicts.specs.declared.Verdict.the-variants.{None, Refused, Accepted}
-use Rattle.verdicts.specs.declared.Seat.{Seat}
-use Rattle.verdicts.specs.declared.Judged.{Judged}
+use Rattle.verdicts.specs.declared.DealerVerdict.{DealerVerdict}
+use Rattle.verdicts.specs.declared.Judgement.{Judgement}
 
 -- ---- over the verdicts
 -- 1 for an accepted dealing, stuck or not
@@ -71,30 +72,43 @@ drawChecks t vs = endChecks t (countAccepted vs) (anyStuck vs)
 unfoldable pub drawOf : ℕ → ℕ → List Verdict → Outcome Element
 drawOf p t vs = outcome (drawChecks t vs) (record { 0 = secretsProduct p vs })
 
--- the draw of a board, or the refusal before its verdicts
+-- the draw of a board: the checks before its verdicts come first
+abbrev pub boardDrawChecks : Judges → Setting → List ℕ → List Check
+boardDrawChecks J S b = boardChecks S b ++ drawChecks (S .t) (verdictsOn J S b)
+
+abbrev pub boardProduct : Judges → Setting → List ℕ → Element
+boardProduct J S b = record { 0 = secretsProduct (S .group .p) (verdictsOn J S b) }
+
+unfoldable pub drawIn : Judges → Setting → List ℕ → Outcome Element
+drawIn J S b = outcome (boardDrawChecks J S b) (boardProduct J S b)
+
 unfoldable pub drawOn : Judges → Round → List ℕ → Outcome Element
-drawOn J R b =
-    pick (eqb (refusal (boardChecks R b)) 0)
-    (drawOf (groupIn R .p) (R .t) (verdictsOn J R b))
-    (refused (refusal (boardChecks R b)))
+drawOn J R b = judged R (λ S. boardDrawChecks J S b) (λ S. boardProduct J S b)
 
 -- ---- the board judge's answer
--- the seats of 31 dealers, of whom the first n have a verdict
-abbrev pub seatOf : (ℕ → Verdict) → ℕ → ℕ → Seat
-seatOf w n d = record { verdict = pick (leb d n) (w d) None }
+-- the places of 31 dealers, of whom the first n have a verdict
+abbrev pub placeFor : (ℕ → Verdict) → ℕ → ℕ → DealerVerdict
+placeFor w n d = record { verdict = pick (leb d n) (w d) None }
 
-unfoldable pub seatsOf : (ℕ → Verdict) → ℕ → List Seat
-seatsOf w n = map (seatOf w n) (upFrom 1 31)
+unfoldable pub verdictPlaces : (ℕ → Verdict) → ℕ → List DealerVerdict
+verdictPlaces w n = map (placeFor w n) (upFrom 1 31)
 
 -- no verdict
-abbrev pub noSeats : List Seat
-noSeats = replicate 31 (record { verdict = None })
+abbrev pub noVerdicts : List DealerVerdict
+noVerdicts = replicate 31 (record { verdict = None })
 
 -- the answer where a check before the verdicts refuses by k
-unfoldable pub refusedBoard : ℕ → Judged
-refusedBoard k = record { seats = noSeats; accepted = 0; draw = answer-variants.Refused k }
+unfoldable pub refusedBoard : ℕ → Judgement
+refusedBoard k = record { verdicts = noVerdicts; accepted = 0; draw = answer-variants.Refused k }
 
-pub record JudgedAs (J : Judges) (R : Round) (b : List ℕ) (A : Judged) : Type 0 where
-  pub seats : A .seats ≡ pick (eqb (refusal (boardChecks R b)) 0) (seatsOf (verdictOn J R b) (R .n)) noSeats
-  pub accepted : A .accepted ≡ pick (eqb (refusal (boardChecks R b)) 0) (countAccepted (verdictsOn J R b)) 0
+-- where verdicts are reached
+pub record JudgementIn (J : Judges) (S : Setting) (b : List ℕ) (A : Judgement) : Type 0 where
+  pub verdicts : A .verdicts ≡ verdictPlaces (verdictOn J S b) (S .n)
+  pub accepted : A .accepted ≡ countAccepted (verdictsOn J S b)
+  pub draw : elementOutcomeOf (A .draw) ≡ drawOf (S .group .p) (S .t) (verdictsOn J S b)
+
+-- of every round and board: no verdict where a check before them refuses
+pub record JudgementOf (J : Judges) (R : Round) (b : List ℕ) (A : Judgement) : Type 0 where
+  pub verdicts : A .verdicts ≡ judgedElse R (λ S. boardChecks S b) (λ S. verdictPlaces (verdictOn J S b) (S .n)) noVerdicts
+  pub accepted : A .accepted ≡ judgedElse R (λ S. boardChecks S b) (λ S. countAccepted (verdictsOn J S b)) 0
   pub draw : elementOutcomeOf (A .draw) ≡ drawOn J R b

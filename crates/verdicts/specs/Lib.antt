@@ -1,4 +1,4 @@
 -- Verdicts, the count of accepted dealings and the draw.
 pub mod Verdict
-pub mod Lowest
+pub mod Gathered
 pub mod Draw

@@ -5,23 +5,24 @@ ghost use Prim.Native.Nat.{_<_};
 ghost use Rattle.words.specs.Choice.{pick};
 ghost use Rattle.words.specs.Checks.{Met, outcome};
 ghost use Rattle.group.specs.Answer.{elementOutcomeOf};
-ghost use Rattle.sharing.specs.Round.{groupIn};
+ghost use Rattle.sharing.specs.Setting.{ProperSetting};
 ghost use Rattle.board.specs.Board.{boardChecks};
 ghost use Rattle.verdicts.specs.Verdict.{judges};
-ghost use Rattle.verdicts.specs.Draw.{countOne, isStuck, secretValue, timesSecret, endChecks, refusedBoard, JudgedAs};
-use crate::Judged;
-use crate::Seat;
+ghost use Rattle.verdicts.specs.Draw.{countOne, isStuck, secretValue, timesSecret, endChecks, refusedBoard, JudgementIn, JudgementOf};
+use crate::DealerVerdict;
+use crate::Judgement;
 use crate::Secret;
 use crate::Verdict;
 use crate::verdicts::verdict;
 use board::board_keys;
-use board::board_refusal;
+use board::board_refusal_in;
 use group::Element;
 use group::ElementAnswer;
 use group::Group;
-use group::GroupAnswer;
 use sharing::Round;
-use sharing::round_group;
+use sharing::Setting;
+use sharing::SettingAnswer;
+use sharing::setting_of;
 
 // 1 for an accepted dealing.
 fn count_one(v: Verdict) -> u32
@@ -87,64 +88,64 @@ fn draw_answer(t: u32, accepted: u32, stuck: bool, product: Element) -> ElementA
 }
 
 // The verdicts of all dealers, from the last to the first, and how the board ends.
-// Internal: callers ensure that gr is the round's group and that verdicts are reached.
-fn tally(gr: Group, rd: Round, b: &[u8]) -> Judged
-    requires { ⌜ (groupIn rd ≡ gr) × (Met (boardChecks rd (now b))) ⌝ }
-    ensures { λ r. ⌜ JudgedAs judges rd (now (b .entry)) r ⌝ }
+// Internal: callers ensure that the setting is proper and that verdicts are reached.
+pub fn all_verdicts(s: Setting, b: &[u8]) -> Judgement
+    requires { ⌜ (ProperSetting s) × (Met (boardChecks s (now b))) ⌝ }
+    ensures { λ r. ⌜ JudgementIn judges s (now (b .entry)) r ⌝ }
 {
-    let n = rd.n as usize;
-    let ys = board_keys(b, rd.n);
-    let none = Seat {
+    let n = s.n as usize;
+    let ys = board_keys(b, s.n);
+    let none = DealerVerdict {
         verdict: Verdict::None,
     };
-    let mut seats = [none; 31];
+    let mut verdicts = [none; 31];
     let mut accepted: u32 = 0;
     let mut stuck = false;
     let mut product = Element(1);
-    let mut d = rd.n;
+    let mut d = s.n;
     while d > 0 {
-        let v = verdict(gr, rd, &ys[0..n], b, d);
+        let v = verdict(s, &ys[..n], b, d);
         accepted = count_one(v) + accepted;
         stuck = any_stuck(v, stuck);
-        product = times_secret(gr, v, product);
+        product = times_secret(s.group, v, product);
         d -= 1;
         let at = d as usize;
-        seats[at] = Seat { verdict: v };
+        verdicts[at] = DealerVerdict { verdict: v };
     }
-    Judged {
-        seats,
+    Judgement {
+        verdicts,
         accepted,
-        draw: draw_answer(rd.t, accepted, stuck, product),
+        draw: draw_answer(s.t, accepted, stuck, product),
     }
 }
 
 // The answer where a check before the verdicts refuses the board.
-fn refused_board(k: u32) -> Judged
+fn refused_board(k: u32) -> Judgement
     ensures { λ r. ⌜ r ≡ refusedBoard k ⌝ }
 {
-    let none = Seat {
+    let none = DealerVerdict {
         verdict: Verdict::None,
     };
-    Judged {
-        seats: [none; 31],
+    Judgement {
+        verdicts: [none; 31],
         accepted: 0,
         draw: ElementAnswer::Refused(k),
     }
 }
 
-// Judges a board. Refused, with no verdict: 1, 2, 3, 4, 5, 12 and 6 as board_refusal. After all verdicts: 14 fewer than t
-// accepted dealings; 13 a stuck dealing.
-pub fn judge_board(rd: Round, b: &[u8]) -> Judged
-    ensures { λ r. ⌜ JudgedAs judges rd (now (b .entry)) r ⌝ }
+// Judges a board. Refused, with no verdict: 1 and 2 as setting_of; 3, 4, 5, 12 and 6 as board_refusal_in. After all verdicts: 14 fewer
+// than t accepted dealings; 13 a stuck dealing.
+pub fn judge_board(rd: Round, b: &[u8]) -> Judgement
+    ensures { λ r. ⌜ JudgementOf judges rd (now (b .entry)) r ⌝ }
 {
-    match round_group(rd) {
-        GroupAnswer::Refused(k) => refused_board(k),
-        GroupAnswer::Value(gr) => {
-            let k = board_refusal(rd, b);
+    match setting_of(rd) {
+        SettingAnswer::Refused(k) => refused_board(k),
+        SettingAnswer::Value(s) => {
+            let k = board_refusal_in(s, b);
             if k != 0 {
                 return refused_board(k);
             }
-            tally(gr, rd, b)
+            all_verdicts(s, b)
         }
     }
 }

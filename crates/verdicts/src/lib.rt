@@ -5,6 +5,7 @@ mod verdicts;
 
 use group::Element;
 use group::ElementAnswer;
+pub use judge::all_verdicts;
 pub use judge::judge_board;
 
 // How the secret of an accepted dealing came.
@@ -21,12 +22,12 @@ pub enum Verdict {
 }
 
 // A dealer's verdict, as an array holds it.
-pub struct Seat {
+pub struct DealerVerdict {
     pub verdict: Verdict,
 }
 
 // The lowest members with accepted shares, and these shares: two arrays with 0 behind them, and how many there are.
-pub struct Lowest {
+pub struct GatheredShares {
     pub members: [u32; 31],
     pub shares: [u32; 31],
     pub count: usize,
@@ -34,8 +35,8 @@ pub struct Lowest {
 
 // Every dealer's verdict (dealer d at d - 1, those above n None), the count of accepted dealings, and the draw: the beacon's output,
 // or the number of the refusal.
-pub struct Judged {
-    pub seats: [Seat; 31],
+pub struct Judgement {
+    pub verdicts: [DealerVerdict; 31],
     pub accepted: u32,
     pub draw: ElementAnswer,
 }

@@ -2,39 +2,46 @@
 ghost use mathlib.Core.Path.{_≡_};
 ghost use Prim.Native.Nat.{_<_};
 ghost use Rattle.group.specs.Answer.{elementOutcomeOf};
-ghost use Rattle.verdicts.specs.Verdict.{judges, Dealt, ShareOf, shareAnswer};
-ghost use Rattle.verdicts.specs.Lowest.{withShare, lowestBy};
-use crate::Lowest;
+ghost use Rattle.verdicts.specs.Verdict.{judges, LinesOn, ShareOf, shareAnswer};
+ghost use Rattle.verdicts.specs.Gathered.{withShare, lowestBy};
+use crate::GatheredShares;
 use board::find_key;
 use board::place_of;
 use group::Element;
 use group::ElementAnswer;
-use opened::judge_share;
-use posted::record_at;
-use sharing::Round;
+use records::SHARE;
+use records::record_at;
+use share::judge_share_figures;
+use sharing::Setting;
 
-// What the judge of opened shares answers for the record i with the key of its member and the Y of that member's line.
-// Internal: callers ensure that it is a share of the dealer d, and that these are the n lines of d on a board whose verdicts are reached.
-fn accepted_share(rd: Round, b: &[u8], d: u32, lines: &[u8], i: usize) -> ElementAnswer
-    requires { ⌜ (ShareOf (now b) d i) × (Dealt rd (now b) d (now lines)) ⌝ }
-    ensures { λ r. ⌜ elementOutcomeOf r ≡ shareAnswer judges rd (now (b .entry)) d i ⌝ }
+// What the judge of opened shares answers for the record i with the key of its member and the Y of that member's line: its figures decide,
+// for the board and the dealing settle the rest.
+// Internal: callers ensure that it is a share of the dealer d, and that these are his accepted lines on a board whose verdicts are reached.
+fn accepted_share(s: Setting, b: &[u8], d: u32, lines: &[u8], i: usize) -> ElementAnswer
+    requires { ⌜ (ShareOf (now b) d i) × (LinesOn s (now b) d (now lines)) ⌝ }
+    ensures { λ r. ⌜ elementOutcomeOf r ≡ shareAnswer judges s (now (b .entry)) d i ⌝ }
 {
-    let r = record_at(b, i);
-    let key = record_at(b, find_key(b, r.w2));
-    let at = r.w2 as usize - 1;
+    let share = record_at(b, i);
+    let key = record_at(b, find_key(b, share.w2));
+    let at = share.w2 as usize - 1;
     let line = record_at(lines, at);
-    let from = 32 * i;
-    let to = from + 32;
-    judge_share(rd, d, r.w2, Element(key.w3), Element(line.w4), &b[from..to])
+    judge_share_figures(s, d, share.w2, Element(key.w3), Element(line.w4), share)
 }
 
 // The shares found before the record i, and its share where it is an accepted one.
 // Internal: callers ensure what accepted_share asks, and that there is room.
-fn with_share(rd: Round, b: &[u8], d: u32, lines: &[u8], i: usize, found: Lowest) -> Lowest
-    requires { ⌜ (ShareOf (now b) d i) × (Dealt rd (now b) d (now lines)) × (found .count < 31) ⌝ }
-    ensures { λ r. ⌜ r ≡ withShare judges rd (now (b .entry)) d i found ⌝ }
+fn with_share(
+    s: Setting,
+    b: &[u8],
+    d: u32,
+    lines: &[u8],
+    i: usize,
+    found: GatheredShares,
+) -> GatheredShares
+    requires { ⌜ (ShareOf (now b) d i) × (LinesOn s (now b) d (now lines)) × (found .count < 31) ⌝ }
+    ensures { λ r. ⌜ r ≡ withShare judges s (now (b .entry)) d i found ⌝ }
 {
-    let ElementAnswer::Value(s) = accepted_share(rd, b, d, lines, i) else {
+    let ElementAnswer::Value(decrypted) = accepted_share(s, b, d, lines, i) else {
         return found;
     };
     let member = record_at(b, i).w2;
@@ -42,8 +49,8 @@ fn with_share(rd: Round, b: &[u8], d: u32, lines: &[u8], i: usize, found: Lowest
     let mut members = found.members;
     let mut shares = found.shares;
     members[at] = member;
-    shares[at] = s.0;
-    Lowest {
+    shares[at] = decrypted.0;
+    GatheredShares {
         members,
         shares,
         count: at + 1,
@@ -51,21 +58,21 @@ fn with_share(rd: Round, b: &[u8], d: u32, lines: &[u8], i: usize, found: Lowest
 }
 
 // The t lowest members with accepted shares, or all where there are fewer: the shares of d stand in a row, by ascending member.
-// Internal: callers ensure that these are the n lines of d on a board whose verdicts are reached.
-pub(crate) fn lowest_shares(rd: Round, b: &[u8], d: u32, lines: &[u8]) -> Lowest
-    requires { ⌜ Dealt rd (now b) d (now lines) ⌝ }
-    ensures { λ r. ⌜ r ≡ lowestBy judges rd (now (b .entry)) d ⌝ }
+// Internal: callers ensure that these are the accepted lines of d on a board whose verdicts are reached.
+pub(crate) fn lowest_shares(s: Setting, b: &[u8], d: u32, lines: &[u8]) -> GatheredShares
+    requires { ⌜ LinesOn s (now b) d (now lines) ⌝ }
+    ensures { λ r. ⌜ r ≡ lowestBy judges s (now (b .entry)) d ⌝ }
 {
-    let room = rd.t as usize;
-    let end = place_of(b, 4, d, 32);
-    let mut found = Lowest {
+    let room = s.t as usize;
+    let end = place_of(b, SHARE, d, 32);
+    let mut found = GatheredShares {
         members: [0; 31],
         shares: [0; 31],
         count: 0,
     };
-    let mut i = place_of(b, 4, d, 0);
+    let mut i = place_of(b, SHARE, d, 0);
     while i < end && found.count < room {
-        found = with_share(rd, b, d, lines, i, found);
+        found = with_share(s, b, d, lines, i, found);
         i += 1;
     }
     found

@@ -6,8 +6,8 @@ use Prim.Native.Nat.{ℕ, zero, suc, _+_, _*_, _/_, _%_, _^_, _<_, _≤_}
 use native.Mathlib.Nat.{mod-eq-of-lt}
 use native.Mathlib.Omega.{arith}
 use borrow.Rule.Slice.PartMut.{putMid}
-use lib.ListN.{length, getD, take, drop, set, length-append, length-drop, List·getD-append}
-use lib.Seq.{length-take-le, sets-eq, take-at, take-all, drop-length, drop-cons, drop-drop, getD-append-add, getD-take, getD-drop}
+use lib.ListN.{length, getD, take, drop, set, length-append, length-drop, take-append-drop, List·getD-append}
+use lib.Seq.{length-take-le, sets-eq, take-at, take-all, drop-length, drop-cons, drop-drop, drop-append-add, getD-append-add}
 use Rattle.words.specs.Lists.{Below}
 use Rattle.words.specs.Bytes.{word, wordAt, wordBytes, wordsBytes, putAt, recordWords, recordBytes, recordIn}
 use Rattle.words.specs.Claims.{ReadBack, WriteBack}
@@ -47,20 +47,6 @@ module _ (xs ys : List ℕ) (k : ℕ) where
   -- in the first list
   pub word-front : k + 4 ≤ length xs → wordAt (xs ++ ys) k ≡ wordAt xs k
   word-front l = word-same (xs ++ ys) xs k k (λ i h. List·getD-append xs ys 0 (k + i) (omega arith))
-
-module _ (n : ℕ) (b : List ℕ) (k : ℕ) where
-  pub word-take : k + 4 ≤ n → wordAt (take n b) k ≡ wordAt b k
-  word-take l = word-same (take n b) b k k (λ i h. getD-take n b (k + i) 0 (omega arith))
-
-  pub word-drop : wordAt (drop n b) k ≡ wordAt b (n + k)
-  word-drop = word-same (drop n b) b k (n + k) (λ i h. byte i)
-    where
-      byte : (i : ℕ) → getD (drop n b) (k + i) 0 ≡ getD b (n + k + i) 0
-      byte i = let e : n + k + i ≡ n + (k + i) = omega arith in rw e (getD-drop n b (k + i) 0)
-
--- inside a part
-pub word-part : (n a : ℕ) (b : List ℕ) (k : ℕ) → k + 4 ≤ n → wordAt (take n (drop a b)) k ≡ wordAt b (a + k)
-word-part n a b k h = word-take n (drop a b) k h ∙ word-drop a b k
 
 -- ---- the size of a byte
 byte-low : (b : List ℕ) (k : ℕ) → Below 256 b → getD b k 0 < 256
@@ -102,6 +88,29 @@ module _ (k : ℕ) (bs l : List ℕ) (h : k + length bs ≤ length l) where
   unfolding putAt
   put-take = take-at (take k l ++ bs) (drop (k + length bs) l) (k + length bs) front-length
 
+-- nothing put
+pub put-none : (k : ℕ) (l : List ℕ) → putAt k [] l ≡ l
+unfolding putAt
+put-none k l = let e : k + 0 ≡ k = omega arith in rw (append-nil, e) (take-append-drop k l)
+
+-- one byte stored
+pub put-byte : (k x : ℕ) (l : List ℕ) → k < length l → set l k x ≡ putAt k (x ∷ []) l
+unfolding putAt
+put-byte k x l h = sets-eq (x ∷ []) l k (omega arith)
+
+-- bytes put behind others
+pub put-put : (k m : ℕ) (xs ys l : List ℕ) → m ≡ k + length xs → m ≤ length l → putAt m ys (putAt k xs l) ≡ putAt k (xs ++ ys) l
+unfolding putAt
+put-put k m xs ys l e h =
+    let p = take k l ++ xs in
+    let s : length p ≡ m = length-append (take k l) xs ∙ omega (arith, length-take-le k l (omega arith)) in
+    let r = drop (k + length xs) l in
+    let a : m + length ys ≡ length p + length ys = omega arith in
+    let b : k + length xs + length ys ≡ k + length (xs ++ ys) = omega (arith, length-append xs ys) in
+    (λ j. take-at p r m s j ++ ys ++ drop (a j) (p ++ r))
+    ∙ ap (λ (t : List ℕ). p ++ ys ++ t) (drop-append-add p r (length ys) ∙ drop-drop (length ys) (k + length xs) l ∙ ap (λ (n : ℕ). drop n l) b)
+    ∙ ap (λ (t : List ℕ). t ++ drop (k + length (xs ++ ys)) l) (append-assoc (take k l) xs ys)
+
 -- ---- runs of words
 -- n words from the place k on
 abbrev wordsFrom : ℕ → ℕ → List ℕ → List ℕ
@@ -114,13 +123,13 @@ putWords k [] l = l
 putWords k (w ∷ ws) l = putWords (k + 4) ws (putAt k (wordBytes w) l)
 
 -- they stand behind the first k bytes
-put-words : (k : ℕ) (ws l : List ℕ) → length l ≡ k + 4 * length ws → putWords k ws l ≡ take k l ++ wordsBytes ws
+words-put : (k : ℕ) (ws l : List ℕ) → length l ≡ k + 4 * length ws → putWords k ws l ≡ take k l ++ wordsBytes ws
 unfolding wordsBytes
-put-words k [] l h = sym (append-nil (take k l) ∙ take-all k l (omega arith))
-put-words k (w ∷ ws) l h =
+words-put k [] l h = sym (append-nil (take k l) ∙ take-all k l (omega arith))
+words-put k (w ∷ ws) l h =
     let e : k + length (wordBytes w) ≡ k + 4 = omega (arith, word-length w) in
     let f : k + length (wordBytes w) ≤ length l = omega arith in
-    put-words (k + 4) ws (putAt k (wordBytes w) l) (put-length k (wordBytes w) l f ∙ omega arith)
+    words-put (k + 4) ws (putAt k (wordBytes w) l) (put-length k (wordBytes w) l f ∙ omega arith)
     ∙ ap (λ (x : List ℕ). x ++ wordsBytes ws) (ap (λ (n : ℕ). take n (putAt k (wordBytes w) l)) (sym e) ∙ put-take k (wordBytes w) l f)
     ∙ append-assoc (take k l) (wordBytes w) (wordsBytes ws)
 
@@ -178,7 +187,7 @@ pub record-put : (r : Record) (l : List ℕ) {a b c d e f g h : List ℕ} → le
     → e ≡ putAt 16 (wordBytes (r .w4)) d → f ≡ putAt 20 (wordBytes (r .w5)) e → g ≡ putAt 24 (wordBytes (r .w6)) f → h ≡ putAt 28 (wordBytes (r .w7)) g
     → h ≡ recordBytes r
 unfolding recordBytes
-record-put r l n p0 p1 p2 p3 p4 p5 p6 p7 = cc (put-words 0 (recordWords r) l n)
+record-put r l n p0 p1 p2 p3 p4 p5 p6 p7 = cc (words-put 0 (recordWords r) l n)
 
 pub read-back : ReadBack
 unfolding recordBytes recordIn

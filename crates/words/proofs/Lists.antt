@@ -84,6 +84,10 @@ module _ {A B : Type 0} (f : A → B) where
   map-same g [] h = refl
   map-same g (x ∷ xs) h = λ j. h .0 j ∷ map-same g xs (h .1) j
 
+  pub map-append : (xs ys : List A) → map f (xs ++ ys) ≡ map f xs ++ map f ys
+  map-append [] ys = refl
+  map-append (x ∷ xs) ys = ap (λ (l : List B). f x ∷ l) (map-append xs ys)
+
   pub map-comp : {C : Type 0} (g : B → C) (xs : List A) → map g (map f xs) ≡ map (λ x. g (f x)) xs
   map-comp g [] = refl
   map-comp {C} g (x ∷ xs) = ap (λ (l : List C). g (f x) ∷ l) (map-comp g xs)
@@ -127,6 +131,16 @@ up-drop i (suc n) (suc k) h =
     let r : n - k ≡ suc n - suc k = omega arith in
     up-drop (suc i) n k (le-of-suc-le-suc h) ∙ (λ j. upFrom (e j) (r j))
 
+-- by its last
+pub up-last : (i n : ℕ) → upFrom i (n + 1) ≡ upFrom i n ++ ((i + n) ∷ [])
+up-last i n = ap (upFrom i) (add-one n) ∙ last i n
+  where
+    last : (i n : ℕ) → upFrom i (suc n) ≡ upFrom i n ++ ((i + n) ∷ [])
+    last i zero = let e : i ≡ i + 0 = omega arith in ap (λ (x : ℕ). x ∷ []) e
+    last i (suc n) =
+        let e : suc i + n ≡ i + suc n = omega arith in
+        ap (λ (l : List ℕ). i ∷ l) (last (suc i) n ∙ ap (λ (x : ℕ). upFrom (suc i) n ++ (x ∷ [])) e)
+
 -- ---- an array l of m places that holds the k numbers xs, and 0 behind them
 pub filled-none : (m : ℕ) → replicate m 0 ≡ filled m []
 unfolding filled
@@ -147,3 +161,16 @@ module _ (m k : ℕ) (xs : List ℕ) {l : List ℕ} (s : length xs ≡ k) (e : l
       ∙ set-at xs 0 r x k s
       ∙ sym (append-snoc xs x r)
       ∙ ap (filled m) f
+
+-- ---- the same where the k numbers are f at i, i + 1 and so on
+module _ (f : ℕ → ℕ) (m i k : ℕ) {l : List ℕ} (e : l ≡ filled m (map f (upFrom i k))) where
+  run-length : length (map f (upFrom i k)) ≡ k
+  run-length = map-length f (upFrom i k) ∙ up-length i k
+
+  pub run-front : take k l ≡ map f (upFrom i k)
+  run-front = filled-front m k (map f (upFrom i k)) run-length e
+
+  pub run-next : {x : ℕ} → k < m → x ≡ f (i + k) → set l k x ≡ filled m (map f (upFrom i (k + 1)))
+  run-next {x} h v =
+      filled-next m k (map f (upFrom i k)) run-length e x h
+      (ap (λ (y : ℕ). map f (upFrom i k) ++ (y ∷ [])) v ∙ sym (ap (map f) (up-last i k) ∙ map-append f (upFrom i k) ((i + k) ∷ [])))

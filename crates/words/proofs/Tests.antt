@@ -1,12 +1,12 @@
 -- Tests as facts, and facts as tests: choice, conjunction, a test of every element, absence and distinctness in a list.
 -- Then the turns of a loop that tests a list from an index on: next, where the element passes; stop, where it does not; end, past the last.
-use mathlib.Core.Path.{_≡_, refl, ap, _∙_}
-use mathlib.Core.Bool.{Bool, true, false, _&&_}
+use mathlib.Core.Path.{_≡_, refl, sym, ap, _∙_}
+use mathlib.Core.Bool.{Bool, true, false, not, _&&_}
 use mathlib.Core.List.{List, [], _∷_}
 use Prim.Native.Nat.{ℕ, zero, suc, _+_, _<_}
 use native.Mathlib.Nat.{le-of-suc-le-suc, not-suc-le-zero}
 use native.Mathlib.Omega.{arith}
-use borrow.Author.Tests.{eq-eqb, ne-eqb, eqb-true}
+use borrow.Author.Tests.{eq-eqb, ne-eqb, eqb-true, not-true, not-false}
 use lib.ListN.{length, getD, take, drop}
 use lib.Seq.{drop-length}
 use lib.Dec.{eqb}
@@ -17,6 +17,15 @@ use Rattle.words.proofs.Lists.{drop-next}
 pub false-true : false ≡ true → ⊥
 false-true e = let z : _≡_ {A = ℕ} 0 1 = cc in omega arith
 
+-- a test b, by the answer r of the function that makes it
+module _ {r b : Bool} (e : r ≡ b) where
+  pub passed : not r ≡ false → b ≡ true
+  passed h = sym e ∙ not-false r h
+
+  pub failed : not r ≡ true → b ≡ false
+  failed h = sym e ∙ not-true r h
+
+-- ---- conjunctions
 pub and-true : (a b : Bool) → a && b ≡ true → (a ≡ true) × (b ≡ true)
 and-true true b e = (refl, e)
 and-true false b e = absurd (false-true e)
@@ -32,6 +41,15 @@ module _ (a b x y : ℕ) where
   pub true-equal : a ≡ b → x ≡ y → eqb a b && eqb x y ≡ true
   true-equal e f = true-and (eqb a b) (eqb x y) (eq-eqb a b e) (eq-eqb x y f)
 
+-- by branches: the second test runs where the first holds, and else the first is the value
+module _ {a b : Bool} (t : Bool) where
+  pub and-held : a ≡ true → b ≡ t → b ≡ a && t
+  and-held h e = e ∙ ap (λ (x : Bool). x && t) (sym h)
+
+  pub and-failed : a ≡ false → b ≡ a → b ≡ a && t
+  and-failed h e = e ∙ h ∙ ap (λ (x : Bool). x && t) (sym h)
+
+-- ---- choice
 module _ {A : Type 0} (b : Bool) (x y : A) where
   pub pick-true : b ≡ true → pick b x y ≡ x
   pick-true e = ap (λ (c : Bool). pick c x y) e

@@ -21,6 +21,11 @@ unfoldable pub wordsBytes : List ℕ → List ℕ
 wordsBytes [] = []
 wordsBytes (w ∷ ws) = wordBytes w ++ wordsBytes ws
 
+-- a number from its bytes, the most significant first, behind the number a
+abbrev pub bigEndian : ℕ → List ℕ → ℕ
+bigEndian a [] = a
+bigEndian a (b ∷ bs) = bigEndian (a * 256 + b) bs
+
 -- the list with the bytes bs from the place k on
 unfoldable pub putAt : ℕ → List ℕ → List ℕ → List ℕ
 putAt k bs l = take k l ++ bs ++ drop (k + length bs) l

@@ -26,6 +26,10 @@ pub data Outcome (A : Type 0) : Type 0 where
   value : A → Outcome A
   refused : ℕ → Outcome A
 
+abbrev pub isValue : {A : Type 0} → Outcome A → Bool
+isValue (value a) = true
+isValue (refused k) = false
+
 -- the value where every check is met, else refused by the first that is not
 abbrev pub outcome : {A : Type 0} → List Check → A → Outcome A
 outcome [] a = value a
@@ -44,7 +48,7 @@ FirstUnmet k (c ∷ cs) = ((c .met ≡ false) × (c .number ≡ k)) ⊎ ((c .met
 abbrev pub Numbered : List Check → Type 0
 Numbered cs = All (λ (c : Check). 0 < c .number) cs
 
--- what a lent buffer holds afterwards: the new where every check is met, else the old
-abbrev pub lentAfter : {A : Type 0} → List Check → A → A → A
-lentAfter [] new old = new
-lentAfter (c ∷ cs) new old = pick (c .met) (lentAfter cs new old) old
+-- the one where every check is met, else the other: what a lent buffer holds afterwards, the new bytes or the old
+abbrev pub ifMet : {A : Type 0} → List Check → A → A → A
+ifMet [] a b = a
+ifMet (c ∷ cs) a b = pick (c .met) (ifMet cs a b) b

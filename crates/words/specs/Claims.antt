@@ -1,11 +1,11 @@
--- What is claimed of checks and of bytes. The proofs are in proofs/Checks.antt and proofs/Bytes.antt.
+-- What is claimed of checks and of bytes. The proofs are in proofs/Checks.antt, proofs/Stages.antt and proofs/Bytes.antt.
 use mathlib.Core.Path.{_≡_}
-use mathlib.Core.List.{List}
+use mathlib.Core.List.{List, _++_}
 use mathlib.Core.Logic.{_↔_}
 use Prim.Native.Nat.{ℕ, _^_, _<_}
 use lib.ListN.{length}
 use Rattle.words.specs.Lists.{Below}
-use Rattle.words.specs.Checks.{Check, value, refused, refusal, outcome, Met, FirstUnmet, Numbered, lentAfter}
+use Rattle.words.specs.Checks.{Check, value, refused, refusal, outcome, Met, FirstUnmet, Numbered, ifMet}
 use Rattle.words.specs.Bytes.{recordWords, recordBytes, recordIn}
 use Rattle.words.specs.declared.Record.{Record}
 
@@ -26,12 +26,25 @@ NoneExactly = (cs : List Check) → Numbered cs → (refusal cs ≡ 0) ↔ Met c
 abbrev pub FirstExactly : Type 0
 FirstExactly = (cs : List Check) (k : ℕ) → 0 < k → (refusal cs ≡ k) ↔ FirstUnmet k cs
 
--- what a lent buffer holds afterwards: the new where every check is met, and the old where one is not
-abbrev pub LentMet : Type 0 → Type 0
-LentMet A = (cs : List Check) (new old : A) → Met cs → lentAfter cs new old ≡ new
+-- the choice by checks, which says what a lent buffer holds afterwards: the first where every check is met, the second where one is not
+abbrev pub ChosenMet : Type 0 → Type 0
+ChosenMet A = (a b : A) (cs : List Check) → Met cs → ifMet cs a b ≡ a
 
-abbrev pub LentKept : Type 0 → Type 0
-LentKept A = (cs : List Check) (new old : A) (k : ℕ) → FirstUnmet k cs → lentAfter cs new old ≡ old
+abbrev pub ChosenUnmet : Type 0 → Type 0
+ChosenUnmet A = (a b : A) (cs : List Check) (k : ℕ) → FirstUnmet k cs → ifMet cs a b ≡ b
+
+-- ---- checks in two stages: where the first is met the second decides, and else the first
+abbrev pub StagesNumber : Type 0
+StagesNumber = (cs ds : List Check) → refusal (cs ++ ds) ≡ ifMet cs (refusal ds) (refusal cs)
+
+abbrev pub StagesOutcome : Type 1
+StagesOutcome = (A : Type 0) (cs ds : List Check) (a : A) → outcome (cs ++ ds) a ≡ ifMet cs (outcome ds a) (refused (refusal cs))
+
+abbrev pub StagesChoice : Type 1
+StagesChoice = (A : Type 0) (cs ds : List Check) (a b : A) → ifMet (cs ++ ds) a b ≡ ifMet cs (ifMet ds a b) b
+
+abbrev pub StagesMet : Type 0
+StagesMet = (cs ds : List Check) → Met (cs ++ ds) ↔ (Met cs × Met ds)
 
 -- ---- records
 -- a record that is written reads back

@@ -1,37 +1,51 @@
 //! The boards of tests/forged as the product's definitions write them, from what a record of each kind is up to the boards.
 
+use crate::draw::SET;
 use crate::forge::{made, Board, Parts};
-use crate::record::Record;
+use crate::record::{Record, KEY, LINE, OPENING, SHARE};
 
-/// The name of each kind of record, and its words: figures that are the same in all of them, and names of the others.
-const KINDS: [(&str, [&str; 8]); 4] = [
-    ("key", ["1", "0", "i", "y", "0", "0", "0", "0"]),
-    ("line", ["2", "d", "i", "v", "Y", "r", "c", "0"]),
-    ("opening", ["3", "d", "0", "s", "0", "0", "0", "0"]),
-    ("share", ["4", "d", "i", "S", "c", "r", "0", "0"]),
+/// The name of each kind of record, its number, and its other words: figures that are the same in all of them, and names
+/// of the others. Those of a board come first.
+const KINDS: [(&str, u32, [&str; 7]); 5] = [
+    ("key", KEY, ["0", "i", "y", "0", "0", "0", "0"]),
+    ("line", LINE, ["d", "i", "v", "Y", "r", "c", "0"]),
+    ("opening", OPENING, ["d", "0", "u", "0", "0", "0", "0"]),
+    ("share", SHARE, ["d", "i", "Z", "c", "r", "0", "0"]),
+    ("set", SET, ["g", "n", "t", "0", "0", "0", "0"]),
 ];
 
-/// Whether the word of a kind is a name.
+/// Whether a word of a kind is a name.
 fn is_name(word: &str) -> bool {
     word.parse::<u32>().is_err()
 }
 
-/// The definition of a kind of record.
-fn kind((name, words): &(&str, [&str; 8])) -> String {
+/// The names among the words of a kind.
+fn names(words: &[&str; 7]) -> String {
     let names: Vec<&str> = words.iter().copied().filter(|word| is_name(word)).collect();
-    let fields = (0..).zip(words).map(|(k, word)| format!("w{k} = {word}"));
-    let fields = fields.collect::<Vec<_>>().join("; ");
+    names.join(" ")
+}
+
+/// The layout of a kind of record.
+fn layout((name, _, words): &(&str, u32, [&str; 7])) -> String {
+    let fields = (1..).zip(words).map(|(k, word)| format!("; w{k} = {word}"));
+    let fields: String = fields.collect();
     format!(
-        "{name} {} = recordBytes (record {{ {fields} }})\n",
-        names.join(" ")
+        "{name}Layout {} = record {{ w0 = {name}Kind{fields} }}\n",
+        names(words)
     )
+}
+
+/// The bytes of a record of a kind.
+fn bytes((name, _, words): &(&str, u32, [&str; 7])) -> String {
+    let names = names(words);
+    format!("{name} {names} = recordBytes ({name}Layout {names})\n")
 }
 
 /// A record: its kind, and the figures that the kind names.
 fn term(record: &Record) -> String {
-    let (name, words) = KINDS[record[0] as usize - 1];
+    let (name, _, words) = KINDS[record[0] as usize - 1];
     let mut term = name.to_string();
-    for (word, figure) in words.iter().zip(record) {
+    for (word, figure) in words.iter().zip(&record[1..]) {
         if is_name(word) {
             term += &format!(" {figure}");
         } else {
@@ -64,7 +78,12 @@ pub fn text() -> String {
         uncarried,
         second,
     } = &parts;
-    let mut text: String = KINDS.iter().map(kind).collect();
+    let kinds = KINDS.iter();
+    let mut text: String = kinds
+        .map(|(name, number, _)| format!("{name}Kind = {number}\n"))
+        .collect();
+    text.extend(KINDS.iter().map(layout));
+    text.extend(KINDS[..4].iter().map(bytes));
     for (name, records) in [
         ("keys", keys),
         ("firstLines", first),
@@ -104,8 +123,10 @@ mod tests {
     #[test]
     fn every_definition_on_a_line() {
         let text = text();
-        assert_eq!(text.lines().count(), 4 + 4 + 1 + 5);
+        assert_eq!(text.lines().count(), 5 + 5 + 4 + 4 + 1 + 5);
         let opened = "openedBoard = boardOf firstLines (opening 1 3 ++ opening 2 6)\n";
         assert!(text.contains(opened));
+        assert!(text.contains("openingLayout d u = record { w0 = openingKind; w1 = d; w2 = 0; w3 = u; w4 = 0; w5 = 0; w6 = 0; w7 = 0 }\n"));
+        assert!(text.contains("opening d u = recordBytes (openingLayout d u)\n"));
     }
 }

@@ -12,7 +12,7 @@ pub const SET_FILE: &str = "round.set";
 pub const BOARD_FILE: &str = "board.bin";
 
 /// The first word of a round's set.
-const SET: u32 = 9;
+pub const SET: u32 = 9;
 
 /// The record that a round's set is.
 pub fn set_record(figures: Figures) -> Record {

@@ -1,16 +1,17 @@
 -- `put_board` meets its contract: the refusal's line where a check before the verdicts refuses, and else the report.
-use mathlib.Core.Path.{refl, sym, ap, _∙_}
-use Rattle.sharing.proofs.Rounds.{ready}
+use mathlib.Core.Path.{refl, sym, _∙_}
+use Rattle.board.specs.Board.{boardChecks}
+use Rattle.board.proofs.Numbers.{board-met}
 use Rattle.verdicts.specs.Verdict.{judges}
-use Rattle.text.specs.Text.{refusedLine}
+use Rattle.text.specs.Text.{refusedLine, report, boardTextIn}
 use Rattle.text.proofs.Writing.{room-as, written-as}
-use Rattle.text.proofs.Lengths.{reached-round, refused-room, board-room}
-use Rattle.text.proofs.Reports.{report-same, board-refused, board-reported}
+use Rattle.text.proofs.Lengths.{refused-room, report-room}
+use Rattle.text.proofs.Reports.{report-same, text-refused, text-passed}
 use Rattle.text.proofs.put_board.Statement.{statement}
 use Rattle.text.proofs.put_board.Tie as tie
 
-board-refusal-requires : tie.Need-board-refusal-requires
-board-refusal-requires c κs = tt
+board-refusal-in-requires : tie.Need-board-refusal-in-requires
+board-refusal-in-requires c κs = c .before .before .pre .0
 
 slice-aggregate-put-line : tie.Need-slice-aggregate-put-line
 slice-aggregate-put-line c = refl
@@ -19,61 +20,65 @@ put-line-requires : tie.Need-put-line-requires
 unfolding refusedLine
 put-line-requires c κs =
     let k = c .before .before .before in
-    refused-room _ (k .before .before .before .pre) (k .board-refusal .result)
+    refused-room _ (k .before .before .before .pre .1) (k .board-refusal-in .result)
 
 same-length : tie.Need-same-length
 same-length c = c .before .before .put-line .kept .0
 
 returns : tie.Need-returns
-unfolding refusedLine
+unfolding refusedLine boardTextIn
 returns c =
     let p = c .before .before in
     let k = p .before .before .before .before in
     let a = k .before .before .before .args in
-    let e = k .board-refusal .ensures in
     written-as
-    (board-refused judges (a .rd) (a .board .now) (λ z. p .before .before .before .if1 .taken (e ∙ z)) ∙ ap refusedLine (sym e))
+    (text-refused (boardChecks (a .s) (a .board .now)) (report judges (a .s) (a .board .now)) (k .board-refusal-in .ensures)
+    (p .before .before .before .if1 .taken))
     (p .put-line .ensures)
 
-judge-board-requires : tie.Need-judge-board-requires
-judge-board-requires c κs = tt
+all-verdicts-requires : tie.Need-all-verdicts-requires
+all-verdicts-requires c κs =
+    let k = c .before .before in
+    let s = k .before .before .before in
+    (s .pre .0, board-met (s .args .s) (s .args .board .now) (sym (k .board-refusal-in .ensures) ∙ c .before .if1 .left))
 
 put-report-requires : tie.Need-put-report-requires
 put-report-requires c κs =
-    let k = c .before .before .before in
-    let s = k .before .before .before in
+    let s = c .before .before .before .before .before .before in
     let a = s .args in
-    let z = sym (k .board-refusal .ensures) ∙ c .before .before .if1 .left in
-    let most = ready (a .rd) (reached-round (a .rd) (a .board .now) z) .at-most in
-    let e = board-reported judges (a .rd) (a .board .now) z
-    ∙ sym (report-same judges (a .rd) (a .board .now) (c .judge-board .result) most z (c .judge-board .ensures)) in
-    (most, room-as e (board-room _ (s .pre) judges (a .rd) (a .board .now)))
+    let P = s .pre .0 in
+    let m = board-met (a .s) (a .board .now) (sym (c .before .before .before .board-refusal-in .ensures) ∙ c .before .before .if1 .left) in (
+      P .n-most,
+      room-as (sym (report-same judges (a .s) (a .board .now) (c .all-verdicts .result) (P .n-most) m (c .all-verdicts .ensures)))
+          (report-room _ (s .pre .1) judges (a .s) (a .board .now) P),
+    )
 
 same-length-2 : tie.Need-same-length-2
 same-length-2 c = c .before .before .put-report .kept .0
 
 returns-2 : tie.Need-returns-2
+unfolding boardTextIn
 returns-2 c =
     let p = c .before .before in
     let k = p .before .before .before .before in
-    let a = k .before .before .before .args in
-    let z = sym (k .board-refusal .ensures) ∙ p .before .before .before .if1 .left in
-    let most = ready (a .rd) (reached-round (a .rd) (a .board .now) z) .at-most in
+    let s = k .before .before .before in
+    let a = s .args in
+    let m = board-met (a .s) (a .board .now) (sym (k .board-refusal-in .ensures) ∙ p .before .before .before .if1 .left) in
     written-as
-    (board-reported judges (a .rd) (a .board .now) z
-    ∙ sym (report-same judges (a .rd) (a .board .now) (p .before .judge-board .result) most z (p .before .judge-board .ensures)))
+    (text-passed (boardChecks (a .s) (a .board .now)) (report judges (a .s) (a .board .now)) m
+    ∙ sym (report-same judges (a .s) (a .board .now) (p .before .all-verdicts .result) (s .pre .0 .n-most) m (p .before .all-verdicts .ensures)))
     (p .put-report .ensures)
 
 pub put-board-spec : {M : Type 1} → statement M
 put-board-spec =
     tie.close
     (tie.spec
-    board-refusal-requires
+    board-refusal-in-requires
     slice-aggregate-put-line
     put-line-requires
     same-length
     returns
-    judge-board-requires
+    all-verdicts-requires
     put-report-requires
     same-length-2
     returns-2)

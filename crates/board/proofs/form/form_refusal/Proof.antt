@@ -6,16 +6,19 @@ use borrow.Author.Needs.{needs}
 use borrow.Author.Tests.{eq-eqb, ne-eqb, le-leb, lt-leb}
 use lib.Dec.{leb}
 use Rattle.board.specs.Search.{recordsIn}
+use Rattle.board.specs.Board.{formChecks}
 use Rattle.board.proofs.form.form_refusal.Statement.{statement}
 use Rattle.board.proofs.form.form_refusal.Tie as tie
 
 returns : tie.Need-returns
+unfolding formChecks
 returns c = simp (ne-eqb _ 0 (c .if1 .taken))
 
 records-requires : tie.Need-records-requires
 records-requires c κs = search needs
 
 returns-2 : tie.Need-returns-2
+unfolding formChecks
 returns-2 c =
     let m = recordsIn (c .before .before .before .before .args .b .now) in
     let r : leb m 2048 ≡ false = lt-leb m 2048 (omega (arith, c .before .records .ensures)) in
@@ -25,6 +28,7 @@ records-refusal-requires : tie.Need-records-refusal-requires
 records-refusal-requires c κs = search needs
 
 returns-3 : tie.Need-returns-3
+unfolding formChecks
 returns-3 c =
     let m = recordsIn (c .before .before .before .before .before .args .b .now) in
     let r : leb m 2048 ≡ true = le-leb m 2048 (omega (arith, c .before .before .records .ensures)) in

@@ -7,9 +7,10 @@ use native.Mathlib.Omega.{arith}
 use borrow.Author.Needs.{needs}
 use borrow.Author.Tests.{not-true, not-false}
 use Rattle.words.specs.Checks.{refusal}
+use Rattle.records.specs.Layout.{isRoundless}
 use Rattle.board.specs.Search.{recordsIn}
-use Rattle.board.specs.Board.{recordChecks}
-use Rattle.board.proofs.Steps.{inOrder, shape-found, order-found, order-first, unshaped, unordered, record-passed, records-passed}
+use Rattle.board.specs.Board.{isShaped, recordChecks}
+use Rattle.board.proofs.Steps.{inOrder, test-found, order-found, order-first, unshaped, unplain, unordered, record-passed, records-passed}
 use Rattle.board.proofs.form.records_refusal.Statement.{statement}
 use Rattle.board.proofs.form.records_refusal.Tie as tie
 
@@ -39,8 +40,22 @@ returns c =
     let w = c .before .before .before in
     let l = w .before .loop in
     let a = w .before .before .before .before .args in
-    let s = shape-found (a .b .now) (l .i) (c .before .before .record-at .ensures) (a .n) (c .before .is-shaped .ensures) (not-true _ (c .if1 .taken)) in
+    let s = test-found (a .b .now) (l .i) (c .before .before .record-at .ensures) (isShaped (a .n)) (c .before .is-shaped .ensures) (not-true _ (c .if1 .taken)) in
     sym (l .inv .1 ∙ unshaped (a .n) (a .b .now) (w .before .before .records .result) (l .i) (w .loop-test .taken) s)
+
+is-roundless-requires : tie.Need-is-roundless-requires Inv-loop μ-loop
+is-roundless-requires c κs = search needs
+
+returns-2 : tie.Need-returns-2 Inv-loop μ-loop
+returns-2 c =
+    let v = c .before .before in
+    let w = v .before .before .before in
+    let l = w .before .loop in
+    let a = w .before .before .before .before .args in
+    let r = v .before .before .record-at .ensures in
+    let s = test-found (a .b .now) (l .i) r (isShaped (a .n)) (v .before .is-shaped .ensures) (not-false _ (v .if1 .left)) in
+    let p = test-found (a .b .now) (l .i) r isRoundless (c .before .is-roundless .ensures) (not-true _ (c .if2 .taken)) in
+    sym (l .inv .1 ∙ unplain (a .n) (a .b .now) (w .before .before .records .result) (l .i) (w .loop-test .taken) s p)
 
 sub-record-at : tie.Need-sub-record-at Inv-loop μ-loop
 sub-record-at c = search needs
@@ -51,18 +66,20 @@ record-at-requires-2 c κs = search needs
 is-below-requires : tie.Need-is-below-requires Inv-loop μ-loop
 is-below-requires c κs = search needs
 
-returns-2 : tie.Need-returns-2 Inv-loop μ-loop
-returns-2 c =
-    let v = c .before .before .before .before in
+returns-3 : tie.Need-returns-3 Inv-loop μ-loop
+returns-3 c =
+    let u = c .before .before .before .before in
+    let v = u .before .before in
     let w = v .before .before .before in
     let l = w .before .loop in
     let a = w .before .before .before .before .args in
     let r = v .before .before .record-at .ensures in
-    let s = shape-found (a .b .now) (l .i) r (a .n) (v .before .is-shaped .ensures) (not-false _ (v .if1 .left)) in
+    let s = test-found (a .b .now) (l .i) r (isShaped (a .n)) (v .before .is-shaped .ensures) (not-false _ (v .if1 .left)) in
+    let p = test-found (a .b .now) (l .i) r isRoundless (u .before .is-roundless .ensures) (not-false _ (u .if2 .left)) in
     let o =
-    order-found (a .b .now) (l .i) r (c .before .before .before .if2 .taken) (c .before .before .record-at2 .ensures) (c .before .is-below .ensures)
-    (not-true _ (c .if3 .taken)) in
-    sym (l .inv .1 ∙ unordered (a .n) (a .b .now) (w .before .before .records .result) (l .i) (w .loop-test .taken) s o)
+    order-found (a .b .now) (l .i) r (c .before .before .before .if3 .taken) (c .before .before .record-at2 .ensures) (c .before .is-below .ensures)
+    (not-true _ (c .if4 .taken)) in
+    sym (l .inv .1 ∙ unordered (a .n) (a .b .now) (w .before .before .records .result) (l .i) (w .loop-test .taken) s p o)
 
 add-i : tie.Need-add-i Inv-loop μ-loop
 add-i c = search needs
@@ -72,21 +89,23 @@ loop-less c = search needs
 
 loop-again : tie.Need-loop-again Inv-loop μ-loop
 loop-again c =
-    let v = c .before in
+    let u = c .before in
+    let v = u .before .before in
     let w = v .before .before .before in
     let l = w .before .loop in
     let a = w .before .before .before .before .args in
     let r = v .before .before .record-at .ensures in
-    let s = shape-found (a .b .now) (l .i) r (a .n) (v .before .is-shaped .ensures) (not-false _ (v .if1 .left)) in
+    let s = test-found (a .b .now) (l .i) r (isShaped (a .n)) (v .before .is-shaped .ensures) (not-false _ (v .if1 .left)) in
+    let p = test-found (a .b .now) (l .i) r isRoundless (u .before .is-roundless .ensures) (not-false _ (u .if2 .left)) in
     let o : inOrder (a .b .now) (l .i) ≡ true =
     ⊎-elim
     (λ x. order-found (a .b .now) (l .i) r (x .0 .taken) (x .1 .ensures) (x .2 .ensures) (not-false _ (x .3 .left)))
     (λ x. order-first (a .b .now) (l .i) (x .left))
-    (c .if2 .came) in
-    (l .inv .0, l .inv .1 ∙ record-passed (a .n) (a .b .now) (w .before .before .records .result) (l .i) (w .loop-test .taken) s o)
+    (c .if3 .came) in
+    (l .inv .0, l .inv .1 ∙ record-passed (a .n) (a .b .now) (w .before .before .records .result) (l .i) (w .loop-test .taken) s p o)
 
-returns-3 : tie.Need-returns-3 Inv-loop μ-loop
-returns-3 c =
+returns-4 : tie.Need-returns-4 Inv-loop μ-loop
+returns-4 c =
     let l = c .before .loop in
     let a = c .before .before .before .before .args in
     sym (l .inv .1 ∙ records-passed (a .n) (a .b .now) (c .before .before .records .result) (l .i) (c .loop-test .left))
@@ -102,11 +121,13 @@ records-refusal-spec =
     record-at-requires
     is-shaped-requires
     returns
+    is-roundless-requires
+    returns-2
     sub-record-at
     record-at-requires-2
     is-below-requires
-    returns-2
+    returns-3
     add-i
     loop-less
     loop-again
-    returns-3)
+    returns-4)

@@ -2,17 +2,16 @@
 use mathlib.Core.Path.{_≡_, ap, _∙_}
 use mathlib.Core.Bool.{true}
 use mathlib.Core.List.{List}
-use Prim.Native.Nat.{ℕ, _+_, _-_, _*_, _<_, _≤_}
+use Prim.Native.Nat.{ℕ, _+_, _-_, _<_, _≤_}
 use native.Mathlib.Omega.{arith}
 use borrow.Author.Needs.{needs}
 use borrow.Author.Tests.{ltb-true}
 use Rattle.words.specs.Lists.{all, filled}
-use Rattle.words.specs.Bytes.{wordAt}
+use Rattle.words.specs.declared.Record.{Record}
 use Rattle.words.proofs.Lists.{filled-none}
-use Rattle.sharing.specs.Round.{members}
-use Rattle.posted.proofs.Members.{members-exactly}
-use Rattle.posted.proofs.Filled.{members-next}
-use Rattle.posted.proofs.Columns.{word-in}
+use Rattle.sharing.specs.Setting.{members}
+use Rattle.records.specs.Layout.{yOf, recordAt}
+use Rattle.records.proofs.Members.{members-exactly, members-next}
 use Rattle.board.specs.Search.{recordsIn}
 use Rattle.board.specs.Board.{keyRecord, hasKey, keyIn, keysIn}
 use Rattle.board.proofs.keys.board_keys.Statement.{statement}
@@ -39,18 +38,8 @@ add-find-key c = search needs
 find-key-requires : tie.Need-find-key-requires Inv-loop μ-loop
 find-key-requires c κs = search needs
 
-mul-word-at : tie.Need-mul-word-at Inv-loop μ-loop
-mul-word-at c =
-    let s = c .before .before .before .before in
-    omega (arith, c .find-key .ensures, key-inside (s .args .b .now) (s .args .n) (c .before .before .loop .i) (s .pre .1) (c .before .loop-test .taken))
-
-add-word-at : tie.Need-add-word-at Inv-loop μ-loop
-add-word-at c =
-    let s = c .before .before .before .before in
-    omega (arith, c .find-key .ensures, key-inside (s .args .b .now) (s .args .n) (c .before .before .loop .i) (s .pre .1) (c .before .loop-test .taken))
-
-word-at-requires : tie.Need-word-at-requires Inv-loop μ-loop
-word-at-requires c κs =
+record-at-requires : tie.Need-record-at-requires Inv-loop μ-loop
+record-at-requires c κs =
     let s = c .before .before .before .before in
     omega (arith, c .find-key .ensures, key-inside (s .args .b .now) (s .args .n) (c .before .before .loop .i) (s .pre .1) (c .before .loop-test .taken))
 
@@ -71,8 +60,7 @@ unfolding keyIn
 loop-again c =
     let l = c .before .before .before .loop in
     let b = c .before .before .before .before .before .args .b .now in
-    let key = c .word-at .ensures
-    ∙ ap (λ (k : ℕ). wordAt b (32 * k + 12)) (c .before .find-key .ensures) ∙ word-in b (keyRecord b (l .i + 1)) 3 (omega arith) in
+    let key = ap (λ (r : Record). yOf r) (c .record-at .ensures ∙ ap (recordAt b) (c .before .find-key .ensures)) in
     (search needs, members-next _ (l .i) (l .inv .1) (omega arith) key)
 
 returns : tie.Need-returns Inv-loop μ-loop
@@ -91,9 +79,7 @@ board-keys-spec =
     cast-at
     add-find-key
     find-key-requires
-    mul-word-at
-    add-word-at
-    word-at-requires
+    record-at-requires
     mul-ys
     array-write-ys
     add-i

@@ -6,8 +6,8 @@ use borrow.Author.Needs.{needs}
 use borrow.Author.Tests.{lt-ltb, le-ltb}
 use lib.ListN.{drop}
 use Rattle.words.specs.Lists.{all}
-use Rattle.sharing.specs.Round.{members}
-use Rattle.posted.proofs.Members.{tests-stop, tests-next, tests-end}
+use Rattle.sharing.specs.Setting.{members}
+use Rattle.records.proofs.Members.{tests-stop, tests-next, tests-end}
 use Rattle.board.specs.Search.{recordsIn}
 use Rattle.board.specs.Board.{keyRecord, hasKey}
 use Rattle.board.proofs.keys.has_keys.Statement.{statement}

@@ -1,22 +1,29 @@
 -- `dealer_lines` meets its contract: what `lines_check` answers tells whether every check is met.
 use mathlib.Core.Path.{_≡_, sym, ap, _∙_}
-use mathlib.Core.List.{List, []}
+use mathlib.Core.List.{List, [], _++_}
 use Prim.Native.Nat.{ℕ, _*_}
 use borrow.Author.Needs.{needs}
-use Rattle.words.specs.Checks.{Met, outcome}
-use Rattle.words.proofs.Checks.{value-met, refused-exactly, lent-met, lent-kept}
+use Rattle.words.specs.Checks.{Check, Met}
+use Rattle.words.proofs.Checks.{value-met, refused-exactly, if-met, if-unmet}
+use Rattle.words.proofs.Stages.{met-both}
+use Rattle.sharing.specs.Setting.{settingIn, roundChecks, judged, judgedElse}
 use Rattle.sharing.specs.Answer.{checkOutcomeOf}
 use Rattle.sharing.specs.declared.CheckAnswer.{CheckAnswer}
 use Rattle.sharing.specs.declared.CheckAnswer.the-variants.{Passed}
 use Rattle.sharing.specs.declared.Round.{Round}
-use Rattle.board.specs.Board.{linesStart, linesOf, linesChecks, linesPart, linesAt, behind}
-use Rattle.board.proofs.Order.{form-sorted}
+use Rattle.board.specs.Board.{linesStart, linesOf, linesChecks, linesOutcome, linesPart, linesAt, behind}
+use Rattle.board.proofs.Order.{sorted}
 use Rattle.board.proofs.lines.dealer_lines.Statement.{statement}
 use Rattle.board.proofs.lines.dealer_lines.Tie as tie
 
+-- those of the round and of its setting
+abbrev allChecks : Round → ℕ → List ℕ → List Check
+allChecks R d b = roundChecks R ++ linesChecks (settingIn R) d b
+
 -- every check is met where the answer passes
-passed : (R : Round) (d : ℕ) (b : List ℕ) {a : CheckAnswer} → checkOutcomeOf a ≡ outcome (linesChecks R d b) tt → a ≡ Passed → Met (linesChecks R d b)
-passed R d b e f = value-met (linesChecks R d b) tt tt (sym e ∙ ap checkOutcomeOf f) .0
+passed : (R : Round) (d : ℕ) (b : List ℕ) {a : CheckAnswer} → checkOutcomeOf a ≡ linesOutcome R d b → a ≡ Passed → Met (allChecks R d b)
+unfolding linesOutcome judged
+passed R d b e f = value-met (allChecks R d b) tt tt (sym e ∙ ap checkOutcomeOf f) .0
 
 lines-check-requires : tie.Need-lines-check-requires
 lines-check-requires c κs = search needs
@@ -37,31 +44,33 @@ enum-told-2 : tie.Need-enum-told-2
 enum-told-2 c = search needs
 
 lines-of-requires : tie.Need-lines-of-requires
+unfolding linesChecks
 lines-of-requires c κs =
     let l = c .before .before in
     let a = l .before .before .args in
-    form-sorted (a .rd .n) (a .b .now) (passed (a .rd) (a .d) (a .b .now) (l .lines-check .ensures) (c .enum-told2 .given .1) .1 .1 .1)
+    let m = passed (a .rd) (a .d) (a .b .now) (l .lines-check .ensures) (c .enum-told2 .given .1) in
+    sorted (a .rd .n) (a .b .now) (met-both (roundChecks (a .rd)) (linesChecks (settingIn (a .rd)) (a .d) (a .b .now)) m .1 .1)
 
 returns : tie.Need-returns
-unfolding linesPart linesAt
+unfolding linesOutcome linesPart linesAt judged judgedElse
 returns c =
     let l = c .before .before .before in
     let a = l .before .before .args in
     let b = a .b .now in
-    let cs = linesChecks (a .rd) (a .d) b in
+    let cs = allChecks (a .rd) (a .d) b in
     let u = refused-exactly (Unit {0}) cs tt _ .0 (sym (l .lines-check .ensures) ∙ ap checkOutcomeOf (c .before .enum-told .given .1)) in
-    (sym (lent-kept cs (linesOf b (a .d)) [] _ u), ap (λ (k : ℕ). behind k (a .b .ptr)) (sym (lent-kept cs (32 * linesStart b (a .d)) 0 _ u)))
+    (sym (if-unmet (linesOf b (a .d)) [] cs _ u), ap (λ (k : ℕ). behind k (a .b .ptr)) (sym (if-unmet (32 * linesStart b (a .d)) 0 cs _ u)))
 
 returns-2 : tie.Need-returns-2
-unfolding linesPart linesAt
+unfolding linesPart linesAt judgedElse
 returns-2 c =
     let l = c .before .before .before in
     let a = l .before .before .args in
     let b = a .b .now in
-    let cs = linesChecks (a .rd) (a .d) b in
+    let cs = allChecks (a .rd) (a .d) b in
     let m = passed (a .rd) (a .d) b (l .lines-check .ensures) (c .before .enum-told2 .given .1) in
     let f = c .lines-of .ensures in
-    (f .0 ∙ sym (lent-met cs (linesOf b (a .d)) [] m), f .1 ∙ ap (λ (k : ℕ). behind k (a .b .ptr)) (sym (lent-met cs (32 * linesStart b (a .d)) 0 m)))
+    (f .0 ∙ sym (if-met (linesOf b (a .d)) [] cs m), f .1 ∙ ap (λ (k : ℕ). behind k (a .b .ptr)) (sym (if-met (32 * linesStart b (a .d)) 0 cs m)))
 
 pub dealer-lines-spec : {M : Type 1} → statement M
 dealer-lines-spec =

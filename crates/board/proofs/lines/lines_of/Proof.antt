@@ -3,6 +3,7 @@ use Prim.Native.Nat.{_-_, _*_}
 use native.Mathlib.Omega.{arith}
 use borrow.Author.Needs.{needs}
 use lib.ListN.{take, drop}
+use Rattle.records.specs.Layout.{lineKind}
 use Rattle.board.specs.Board.{linesOf, behind}
 use Rattle.board.proofs.Places.{place-within, run-rises}
 use Rattle.board.proofs.lines.lines_of.Statement.{statement}
@@ -14,7 +15,7 @@ place-of-requires c κs = search needs
 mul-from : tie.Need-mul-from
 mul-from c =
     let a = c .before .before .args in
-    omega (arith, c .place-of .ensures, place-within (a .b .now) 2 (a .d) 0)
+    omega (arith, c .place-of .ensures, place-within (a .b .now) lineKind (a .d) 0)
 
 place-of-requires-2 : tie.Need-place-of-requires-2
 place-of-requires-2 c κs = search needs
@@ -22,22 +23,22 @@ place-of-requires-2 c κs = search needs
 mul-to : tie.Need-mul-to
 mul-to c =
     let a = c .before .before .before .args in
-    omega (arith, c .place-of2 .ensures, place-within (a .b .now) 2 (a .d) 32)
+    omega (arith, c .place-of2 .ensures, place-within (a .b .now) lineKind (a .d) 32)
 
 sub-result : tie.Need-sub-result
 sub-result c =
     let w = c .before .before .before in
-    omega (arith, c .before .place-of .ensures, c .place-of2 .ensures, run-rises (w .pre) 2 (w .args .d))
+    omega (arith, c .before .place-of .ensures, c .place-of2 .ensures, run-rises (w .pre) lineKind (w .args .d))
 
 part-result-start : tie.Need-part-result-start
 part-result-start c =
     let w = c .before .before .before in
-    omega (arith, c .before .place-of .ensures, c .place-of2 .ensures, run-rises (w .pre) 2 (w .args .d))
+    omega (arith, c .before .place-of .ensures, c .place-of2 .ensures, run-rises (w .pre) lineKind (w .args .d))
 
 part-result-end : tie.Need-part-result-end
 part-result-end c =
     let a = c .before .before .before .args in
-    omega (arith, c .place-of2 .ensures, place-within (a .b .now) 2 (a .d) 32)
+    omega (arith, c .place-of2 .ensures, place-within (a .b .now) lineKind (a .d) 32)
 
 returns : tie.Need-returns
 unfolding linesOf

@@ -8,12 +8,11 @@ use borrow.Author.Needs.{needs}
 use lib.ListN.{take, drop}
 use Rattle.words.specs.Lists.{all}
 use Rattle.words.specs.Bytes.{recordIn}
-use Rattle.sharing.specs.Round.{members}
-use Rattle.posted.specs.Records.{recordAt}
+use Rattle.sharing.specs.Setting.{members}
 use Rattle.dealing.specs.Dealing.{isLineFor, isLineOf}
-use Rattle.posted.proofs.Members.{tests-stop, tests-next, tests-end}
-use Rattle.posted.proofs.Columns.{record-of}
-use Rattle.posted.proofs.Stages.{passed, failed}
+use Rattle.records.proofs.Members.{tests-stop, tests-next, tests-end}
+use Rattle.words.proofs.Tests.{passed, failed}
+use Rattle.dealing.proofs.Lines.{line-part}
 use Rattle.dealing.proofs.judge.all_lines.Statement.{statement}
 use Rattle.dealing.proofs.judge.all_lines.Tie as tie
 
@@ -50,19 +49,14 @@ part-is-line-for-end c = search needs
 is-line-for-requires : tie.Need-is-line-for-requires Inv-loop μ-loop
 is-line-for-requires c κs = search needs
 
--- the part that is handed on is the member's record
-line-part : (d i : ℕ) (b : List ℕ) {r : Bool} → r ≡ isLineFor d (i + 1) (recordIn (take (32 * i + 32 - 32 * i) (drop (32 * i) b)))
-    → r ≡ isLineOf d b (i + 1)
-unfolding recordAt
-line-part d i b e =
-    let z : 32 * i + 32 - 32 * i ≡ 32 = omega arith in
-    e ∙ (λ j. isLineFor d (i + 1) (recordIn (take (z j) (drop (32 * i) b)))) ∙ ap (isLineFor d (i + 1)) (record-of b i)
+tested : (d i : ℕ) (b : List ℕ) {r : Bool} → r ≡ isLineFor d (i + 1) (recordIn (take (32 * i + 32 - 32 * i) (drop (32 * i) b))) → r ≡ isLineOf d b (i + 1)
+tested d i b e = e ∙ ap (isLineFor d (i + 1)) (line-part b i)
 
 returns : tie.Need-returns Inv-loop μ-loop
 returns c =
     let t = c .before .before .before in
     let l = t .before .loop in
-    tests-stop _ _ (l .i) (l .inv .1) (t .loop-test .taken) (failed (line-part _ (l .i) _ (c .before .is-line-for .ensures)) (c .if1 .taken))
+    tests-stop _ _ (l .i) (l .inv .1) (t .loop-test .taken) (failed (tested _ (l .i) _ (c .before .is-line-for .ensures)) (c .if1 .taken))
 
 add-i : tie.Need-add-i Inv-loop μ-loop
 add-i c = search needs
@@ -74,7 +68,7 @@ loop-again : tie.Need-loop-again Inv-loop μ-loop
 loop-again c =
     let t = c .before .before .before in
     let l = t .before .loop in
-    (omega arith, tests-next _ _ (l .i) (l .inv .1) (t .loop-test .taken) (passed (line-part _ (l .i) _ (c .before .is-line-for .ensures)) (c .if1 .left)))
+    (omega arith, tests-next _ _ (l .i) (l .inv .1) (t .loop-test .taken) (passed (tested _ (l .i) _ (c .before .is-line-for .ensures)) (c .if1 .left)))
 
 returns-2 : tie.Need-returns-2 Inv-loop μ-loop
 returns-2 c =

@@ -1,8 +1,38 @@
--- `form_refusal` meets its contract: each return by the tests that led to it.
+-- `form_refusal` meets its contract: each return by the tests that led to it, and the keys by their stage.
+use mathlib.Core.Path.{_≡_, refl, sym, _∙_}
+use mathlib.Core.List.{_++_}
 use borrow.Author.Needs.{needs}
-use borrow.Author.Tests.{eq-eqb, ne-eqb, not-true, not-false}
+use borrow.Author.Tests.{eq-eqb, ne-eqb}
+use Rattle.words.specs.Checks.{refusal}
+use Rattle.words.proofs.Tests.{passed, failed, true-equal, pick-true, pick-false}
+use Rattle.words.proofs.Stages.{stage-met, stage-number, rest-number}
+use Rattle.records.specs.Keys.{keyChecks}
+use Rattle.dealing.specs.Dealing.{addressChecks, judgeSizeChecks, lineChecks, dealingFormChecks}
 use Rattle.dealing.proofs.judge.form_refusal.Statement.{statement}
 use Rattle.dealing.proofs.judge.form_refusal.Tie as tie
+
+-- where 8 and 3 do not refuse, keys and lines decide
+keys-decide : (c : tie.Else3)
+    → let a = c .before .before .before .before .before .before .before .args in
+    refusal (keyChecks (a .s .group) (a .ys .now) ++ lineChecks (a .s) (a .d) (a .lines .now)) ≡ refusal (dealingFormChecks (a .s) (a .d) (a .ys .now) (a .lines .now))
+unfolding dealingFormChecks addressChecks judgeSizeChecks
+keys-decide c =
+    let a = c .before .before .before .before .before .before .before .args in
+    let m = c .before .before in
+    rest-number
+    (addressChecks (a .s) (a .d) ++ judgeSizeChecks (a .s) (a .ys .now) (a .lines .now))
+    (keyChecks (a .s .group) (a .ys .now) ++ lineChecks (a .s) (a .d) (a .lines .now))
+    (passed (m .before .is-member .ensures) (m .if1 .left), (true-equal _ _ _ _ (c .before .if2 .left) (c .if3 .left), tt))
+
+-- where the keys do not refuse, the lines decide
+lines-decide : (c : tie.Else4)
+    → let a = c .before .before .before .before .before .before .before .before .before .args in
+    refusal (lineChecks (a .s) (a .d) (a .lines .now)) ≡ refusal (dealingFormChecks (a .s) (a .d) (a .ys .now) (a .lines .now))
+unfolding keyChecks
+lines-decide c =
+    let a = c .before .before .before .before .before .before .before .before .before .args in
+    let keys = keyChecks (a .s .group) (a .ys .now) in
+    rest-number keys (lineChecks (a .s) (a .d) (a .lines .now)) (stage-met keys (c .before .keys-refusal .ensures) refl (c .if4 .left)) ∙ keys-decide (c .before .before)
 
 cast-n : tie.Need-cast-n
 cast-n c = search needs
@@ -11,57 +41,41 @@ is-member-requires : tie.Need-is-member-requires
 is-member-requires c κs = search needs
 
 returns : tie.Need-returns
-returns c = simp (← c .before .is-member .ensures, not-true (c .before .is-member .result) (c .if1 .taken))
+unfolding dealingFormChecks addressChecks judgeSizeChecks
+returns c = simp (failed (c .before .is-member .ensures) (c .if1 .taken))
 
 returns-2 : tie.Need-returns-2
+unfolding dealingFormChecks addressChecks judgeSizeChecks
 returns-2 c =
-    let i1 = c .before in
-    simp (← i1 .before .is-member .ensures, not-false (i1 .before .is-member .result) (i1 .if1 .left), ne-eqb _ _ (c .if2 .taken))
+    let m = c .before in
+    simp (passed (m .before .is-member .ensures) (m .if1 .left), ne-eqb _ _ (c .if2 .taken))
 
 mul-if3 : tie.Need-mul-if3
 mul-if3 c = search needs
 
 returns-3 : tie.Need-returns-3
+unfolding dealingFormChecks addressChecks judgeSizeChecks
 returns-3 c =
-    let i2 = c .before in
-    let i1 = i2 .before in
-    simp
-    (← i1 .before .is-member .ensures, not-false (i1 .before .is-member .result) (i1 .if1 .left), eq-eqb _ _ (i2 .if2 .left), ne-eqb _ _ (c .if3 .taken))
+    let k = c .before in
+    let m = k .before in
+    simp (passed (m .before .is-member .ensures) (m .if1 .left), eq-eqb _ _ (k .if2 .left), ne-eqb _ _ (c .if3 .taken))
 
-all-keys-requires : tie.Need-all-keys-requires
-all-keys-requires c κs = search needs
+keys-refusal-requires : tie.Need-keys-refusal-requires
+keys-refusal-requires c κs = search needs
 
 returns-4 : tie.Need-returns-4
-returns-4 c =
-    let i3 = c .before .before in
-    let i2 = i3 .before in
-    let i1 = i2 .before in
-    let s = i1 .before .before .before .before .before in
-    simp
-    (← s .pre, ← i1 .before .is-member .ensures, not-false (i1 .before .is-member .result) (i1 .if1 .left), eq-eqb _ _ (i2 .if2 .left), eq-eqb _ _ (i3 .if3 .left), ← c .before .all-keys .ensures, not-true (c .before .all-keys .result) (c .if4 .taken))
+returns-4 c = stage-number (keyChecks _ _) (c .before .keys-refusal .ensures) (lineChecks _ _ _) (c .if4 .taken) ∙ keys-decide (c .before .before)
 
 all-lines-requires : tie.Need-all-lines-requires
-all-lines-requires c κs = c .before .before .if3 .left
+all-lines-requires c κs = search needs
 
 returns-5 : tie.Need-returns-5
-returns-5 c =
-    let i4 = c .before .before in
-    let i3 = i4 .before .before in
-    let i2 = i3 .before in
-    let i1 = i2 .before in
-    let s = i1 .before .before .before .before .before in
-    simp
-    (← s .pre, ← i1 .before .is-member .ensures, not-false (i1 .before .is-member .result) (i1 .if1 .left), eq-eqb _ _ (i2 .if2 .left), eq-eqb _ _ (i3 .if3 .left), ← i4 .before .all-keys .ensures, not-false (i4 .before .all-keys .result) (i4 .if4 .left), ← c .before .all-lines .ensures, not-true (c .before .all-lines .result) (c .if5 .taken))
+unfolding lineChecks
+returns-5 c = sym (pick-false _ _ _ (failed (c .before .all-lines .ensures) (c .if5 .taken))) ∙ lines-decide (c .before .before)
 
 returns-6 : tie.Need-returns-6
-returns-6 c =
-    let i4 = c .before .before in
-    let i3 = i4 .before .before in
-    let i2 = i3 .before in
-    let i1 = i2 .before in
-    let s = i1 .before .before .before .before .before in
-    simp
-    (← s .pre, ← i1 .before .is-member .ensures, not-false (i1 .before .is-member .result) (i1 .if1 .left), eq-eqb _ _ (i2 .if2 .left), eq-eqb _ _ (i3 .if3 .left), ← i4 .before .all-keys .ensures, not-false (i4 .before .all-keys .result) (i4 .if4 .left), ← c .before .all-lines .ensures, not-false (c .before .all-lines .result) (c .if5 .left))
+unfolding lineChecks
+returns-6 c = sym (pick-true _ _ _ (passed (c .before .all-lines .ensures) (c .if5 .left))) ∙ lines-decide (c .before .before)
 
 pub form-refusal-spec : {M : Type 1} → statement M
 form-refusal-spec =
@@ -73,7 +87,7 @@ form-refusal-spec =
     returns-2
     mul-if3
     returns-3
-    all-keys-requires
+    keys-refusal-requires
     returns-4
     all-lines-requires
     returns-5

@@ -1,6 +1,8 @@
 -- `is_line_for` meets its contract: each return by the tests that led to it.
+use mathlib.Core.Path.{refl, ap, _∙_}
 use borrow.Author.Needs.{needs}
-use borrow.Author.Tests.{eq-eqb, ne-eqb, not-true, not-false}
+use borrow.Author.Tests.{eq-eqb, ne-eqb}
+use Rattle.words.proofs.Tests.{passed, failed, true-and, and-held}
 use Rattle.dealing.specs.Dealing.{isLineFor}
 use Rattle.dealing.proofs.judge.is_line_for.Statement.{statement}
 use Rattle.dealing.proofs.judge.is_line_for.Tie as tie
@@ -14,25 +16,36 @@ is-line-record-requires c κs = search needs
 returns : tie.Need-returns
 unfolding isLineFor
 returns c =
-    let r = c .before .before in
-    simp (← r .read-record .ensures, ← c .before .is-line-record .ensures, not-true (c .before .is-line-record .result) (c .if1 .taken))
+    simp (← c .before .before .read-record .ensures, failed (c .before .is-line-record .ensures) (c .if1 .taken))
+
+is-roundless-requires : tie.Need-is-roundless-requires
+is-roundless-requires c κs = search needs
 
 returns-2 : tie.Need-returns-2
 unfolding isLineFor
 returns-2 c =
-    let i1 = c .before .before in
-    let r = i1 .before .before in
-    simp
-    (← r .read-record .ensures, ← i1 .before .is-line-record .ensures, not-false (i1 .before .is-line-record .result) (i1 .if1 .left), ne-eqb _ _ (c .if2 .taken))
+    let k = c .before .before in
+    let l = k .before in
+    simp (← l .before .read-record .ensures, passed (l .is-line-record .ensures) (k .if1 .left), failed (c .before .is-roundless .ensures) (c .if2 .taken))
 
 returns-3 : tie.Need-returns-3
 unfolding isLineFor
 returns-3 c =
-    let i2 = c .before in
-    let i1 = i2 .before .before in
-    let r = i1 .before .before in
+    let w = c .before .before in
+    let k = w .before .before in
+    let l = k .before in
     simp
-    (← r .read-record .ensures, ← i1 .before .is-line-record .ensures, not-false (i1 .before .is-line-record .result) (i1 .if1 .left), eq-eqb _ _ (i2 .if2 .left))
+    (← l .before .read-record .ensures, passed (l .is-line-record .ensures) (k .if1 .left), passed (w .before .is-roundless .ensures) (w .if2 .left), ne-eqb _ _ (c .if3 .taken))
+
+returns-4 : tie.Need-returns-4
+unfolding isLineFor
+returns-4 c =
+    let d = c .before in
+    let w = d .before .before in
+    let k = w .before .before in
+    let l = k .before in
+    let form = true-and _ _ (passed (l .is-line-record .ensures) (k .if1 .left)) (passed (w .before .is-roundless .ensures) (w .if2 .left)) in
+    and-held _ form (and-held _ (eq-eqb _ _ (d .if3 .left)) refl) ∙ ap (isLineFor _ _) (l .before .read-record .ensures)
 
 pub is-line-for-spec : {M : Type 1} → statement M
 is-line-for-spec =
@@ -41,5 +54,7 @@ is-line-for-spec =
     read-record-requires
     is-line-record-requires
     returns
+    is-roundless-requires
     returns-2
-    returns-3)
+    returns-3
+    returns-4)

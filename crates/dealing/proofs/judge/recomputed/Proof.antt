@@ -1,69 +1,65 @@
--- `recomputed` meets its contract. The loop's invariant: two arrays hold the announcements of the first i members' lines, and 0 behind.
+-- `recomputed` meets its contract. The loop's invariant: two arrays hold the announcements of the first i members, and 0 behind.
 use mathlib.Core.List.{List}
-use mathlib.Core.Path.{_≡_, _∙_}
+use mathlib.Core.Path.{_≡_, refl, _∙_}
 use Prim.Native.Nat.{ℕ, _-_, _≤_, _<_}
 use native.Mathlib.Omega.{arith}
 use borrow.Author.Needs.{needs}
+use lib.ListN.{length}
 use Rattle.words.specs.Lists.{map, filled}
 use Rattle.words.proofs.Lists.{filled-none}
-use Rattle.group.specs.Element.{Proper}
 use Rattle.group.specs.declared.Group.{Group}
-use Rattle.sharing.specs.Round.{members}
-use Rattle.sharing.proofs.Rounds.{ready}
-use Rattle.dealing.specs.Dealing.{vIn, YIn, rIn, cIn, recomputed}
+use Rattle.sharing.specs.Setting.{members}
+use Rattle.records.specs.Layout.{entry}
+use Rattle.records.proofs.Members.{entry-at, members-next}
 use Rattle.equality.specs.Equality.{announced}
-use Rattle.posted.specs.Message.{challengeOf, dealingMessage}
-use Rattle.posted.specs.Records.{entry}
-use Rattle.posted.proofs.Filled.{members-next}
-use Rattle.posted.proofs.Members.{entry-at}
-use Rattle.posted.proofs.Columns.{record-of}
-use Rattle.dealing.proofs.Entries.{holds-each, dealing-same}
-use Rattle.dealing.proofs.Sizes.{group-proper}
+use Rattle.dealing.specs.Dealing.{recomputed}
+use Rattle.dealing.specs.declared.Columns.{Columns}
+use Rattle.dealing.proofs.Entries.{filled-agree, challenge-same}
 use Rattle.dealing.proofs.judge.recomputed.Statement.{statement}
 use Rattle.dealing.proofs.judge.recomputed.Tie as tie
 
--- the announcements that the line of member i gives
-abbrev firstOf : Group → List ℕ → ℕ → ℕ
-firstOf G b i = announced G (G .g .0) (vIn b i) (cIn b i) (rIn b i)
+-- the announcements of member i
+abbrev firstOf : Group → Columns → ℕ → ℕ
+firstOf G t i = announced G (G .g .0) (entry (t .vs) i) (entry (t .cs) i) (entry (t .rs) i)
 
-abbrev secondOf : Group → List ℕ → List ℕ → ℕ → ℕ
-secondOf G ys b i = announced G (entry ys i) (YIn b i) (cIn b i) (rIn b i)
+abbrev secondOf : Group → List ℕ → Columns → ℕ → ℕ
+secondOf G ys t i = announced G (entry ys i) (entry (t .encrypted) i) (entry (t .cs) i) (entry (t .rs) i)
 
 abbrev Inv-loop : tie.InvT-loop
-Inv-loop gr rd d ys lines n vs es a1s₀ a2s₀ i₀ a1s a2s i =
-    (i ≤ n) × (n ≤ 31) × (a1s ≡ filled 31 (map (firstOf gr lines) (members i))) × (a2s ≡ filled 31 (map (secondOf gr ys lines) (members i)))
+Inv-loop s d ys t a1s₀ a2s₀ i₀ a1s a2s i =
+    let is = members i in
+    (i ≤ length ys) × (length ys ≤ 31) × (a1s ≡ filled 31 (map (firstOf (s .group) t) is)) × (a2s ≡ filled 31 (map (secondOf (s .group) ys t) is))
 
 abbrev μ-loop : tie.MeasureT-loop
-μ-loop gr rd d ys lines n vs es a1s₀ a2s₀ i₀ a1s a2s i = n - i
-
-proper : (s : tie.Start Inv-loop μ-loop) → Proper (s .args .gr)
-proper s = group-proper _ (s .pre .1) (s .pre .0)
-
-cast-n : tie.Need-cast-n Inv-loop μ-loop
-cast-n c = search needs
-
-column-requires : tie.Need-column-requires Inv-loop μ-loop
-column-requires c κs =
-    let s = c .before .before .before in
-    (ready (s .args .rd) (s .pre .0) .at-most, s .pre .4, omega arith)
-
-column-requires-2 : tie.Need-column-requires-2 Inv-loop μ-loop
-column-requires-2 c κs =
-    let s = c .before .before .before .before in
-    (ready (s .args .rd) (s .pre .0) .at-most, s .pre .4, omega arith)
+μ-loop s d ys t a1s₀ a2s₀ i₀ a1s a2s i = length ys - i
 
 loop-holds : tie.Need-loop-holds Inv-loop μ-loop
 loop-holds c =
-    let s = c .before .before .before .before .before in
-    (omega arith, ready (s .args .rd) (s .pre .0) .at-most, filled-none 31, filled-none 31)
+    let s = c .before in
+    (omega arith, omega (arith, s .pre .0 .n-most, s .pre .2), filled-none 31, filled-none 31)
 
-record-at-requires : tie.Need-record-at-requires Inv-loop μ-loop
-record-at-requires c κs = search needs
+mul-t13 : tie.Need-mul-t13 Inv-loop μ-loop
+mul-t13 c = search needs
+
+element-copy-out-t17 : tie.Need-element-copy-out-t17 Inv-loop μ-loop
+element-copy-out-t17 c = search needs
+
+mul-t13-2 : tie.Need-mul-t13-2 Inv-loop μ-loop
+mul-t13-2 c = search needs
+
+element-copy-out-t17-2 : tie.Need-element-copy-out-t17-2 Inv-loop μ-loop
+element-copy-out-t17-2 c = search needs
+
+mul-t13-3 : tie.Need-mul-t13-3 Inv-loop μ-loop
+mul-t13-3 c = search needs
+
+element-copy-out-t17-3 : tie.Need-element-copy-out-t17-3 Inv-loop μ-loop
+element-copy-out-t17-3 c = search needs
 
 announced-requires : tie.Need-announced-requires Inv-loop μ-loop
 announced-requires c κs =
-    let s = c .before .before .before .before .before .before .before .before in
-    proper s .prime-p .above-one
+    let s = c .before .before .before .before .before .before in
+    s .pre .0 .proper .prime-p .above-one
 
 mul-a1s : tie.Need-mul-a1s Inv-loop μ-loop
 mul-a1s c = search needs
@@ -71,16 +67,22 @@ mul-a1s c = search needs
 array-write-a1s : tie.Need-array-write-a1s Inv-loop μ-loop
 array-write-a1s c = search needs
 
-mul-t19 : tie.Need-mul-t19 Inv-loop μ-loop
-mul-t19 c = search needs
+mul-t24 : tie.Need-mul-t24 Inv-loop μ-loop
+mul-t24 c = search needs
 
-shared-slice-read-t23 : tie.Need-shared-slice-read-t23 Inv-loop μ-loop
-shared-slice-read-t23 c = search needs
+shared-slice-read-t17 : tie.Need-shared-slice-read-t17 Inv-loop μ-loop
+shared-slice-read-t17 c = search needs
+
+mul-t13-4 : tie.Need-mul-t13-4 Inv-loop μ-loop
+mul-t13-4 c = search needs
+
+element-copy-out-t30 : tie.Need-element-copy-out-t30 Inv-loop μ-loop
+element-copy-out-t30 c = search needs
 
 announced-requires-2 : tie.Need-announced-requires-2 Inv-loop μ-loop
 announced-requires-2 c κs =
-    let s = c .before .before .before .before .before .before .before .before .before .before in
-    proper s .prime-p .above-one
+    let s = c .before .before .before .before .before .before .before .before .before in
+    s .pre .0 .proper .prime-p .above-one
 
 mul-a2s : tie.Need-mul-a2s Inv-loop μ-loop
 mul-a2s c = search needs
@@ -95,46 +97,39 @@ loop-less : tie.Need-loop-less Inv-loop μ-loop
 loop-less c = search needs
 
 loop-again : tie.Need-loop-again Inv-loop μ-loop
-unfolding vIn YIn rIn cIn
 loop-again c =
-    let a1 = c .before .before in
-    let r = a1 .before in
-    let t = r .before in
-    let o = t .before in
-    let a = o .before .before .before .before .before .before .args in
-    let G = a .gr in
+    let a1 = c .before .before .before in
+    let w = a1 .before .before .before .before in
+    let o = w .before in
+    let a = o .before .before .args in
     let l = o .loop in
-    let h : l .i < 31 = omega (arith, l .inv .1, t .loop-test .taken) in
-    let line = r .record-at .ensures ∙ record-of (a .lines .now) (l .i) in
-    let key = entry-at (a .ys .now) (l .i) in (
-      omega (arith, t .loop-test .taken),
+    let G = a .s .group in
+    let at : (xs : List ℕ) → _ = λ xs. entry-at xs (l .i) in
+    let h : l .i < 31 = omega (arith, l .inv .1, w .loop-test .taken) in (
+      omega (arith, w .loop-test .taken),
       l .inv .1,
-      members-next _ (l .i) (l .inv .2) h (a1 .announced .ensures ∙ (λ j. announced G (G .g .0) (line j .w3) (line j .w6) (line j .w5))),
-      members-next _ (l .i) (l .inv .3) h (c .announced2 .ensures ∙ (λ j. announced G (key j) (line j .w4) (line j .w6) (line j .w5))),
+      members-next _ (l .i) (l .inv .2) h (a1 .announced .ensures ∙ (λ j. announced G (G .g .0) (at (a .t4 .vs) j) (at (a .t4 .cs) j) (at (a .t4 .rs) j))),
+      members-next _ (l .i) (l .inv .3) h
+          (c .announced2 .ensures ∙ (λ j. announced G (at (a .ys .now) j) (at (a .t4 .encrypted) j) (at (a .t4 .cs) j) (at (a .t4 .rs) j))),
     )
 
 dealing-challenge-requires : tie.Need-dealing-challenge-requires Inv-loop μ-loop
 dealing-challenge-requires c κs =
-    let s = c .before .before .before .before .before .before .before .before .before .before .before in
-    (s .pre .0, s .pre .1, s .pre .2)
+    let s = c .before .before .before .before .before .before .before .before .before in
+    (s .pre .0, s .pre .1)
 
 returns : tie.Need-returns Inv-loop μ-loop
-unfolding recomputed vIn YIn
+unfolding recomputed
 returns c =
-    let t = c .before .before .before .before .before in
-    let o = t .before in
-    let e = o .before in
-    let v = e .before in
-    let s = v .before .before .before .before in
+    let e = c .before .before .before .before .before .before .before in
+    let o = e .before in
+    let s = o .before .before in
     let a = s .args in
-    let R = a .rd in
-    let b = a .lines .now in
     let l = o .loop in
-    let end : l .i ≡ R .n = omega (arith, t .loop-test .left) in
+    let end : l .i ≡ a .s .n = omega (arith, e .loop-test .left, s .pre .2) in
     c .dealing-challenge .ensures
-    ∙ dealing-same R (a .d) (holds-each (vIn b) _ _ (v .column .ensures)) (holds-each (YIn b) _ _ (e .column2 .ensures))
-    (holds-each (firstOf (a .gr) b) _ _ (rw end at (l .inv .2))) (holds-each (secondOf (a .gr) (a .ys .now) b) _ _ (rw end at (l .inv .3)))
-    ∙ (λ j. challengeOf R (dealingMessage R (a .d) (vIn b) (YIn b) (firstOf (s .pre .1 j) b) (secondOf (s .pre .1 j) (a .ys .now) b)))
+    ∙ challenge-same (a .s) (a .d) (record { at = λ i h k. refl }) (record { at = λ i h k. refl })
+    (filled-agree (firstOf (a .s .group) (a .t4)) _ (rw end at (l .inv .2))) (filled-agree (secondOf (a .s .group) (a .ys .now) (a .t4)) _ (rw end at (l .inv .3)))
 
 pub recomputed-spec : {M : Type 1} → statement M
 recomputed-spec =
@@ -142,16 +137,20 @@ recomputed-spec =
     (tie.spec
     Inv-loop
     μ-loop
-    cast-n
-    column-requires
-    column-requires-2
     loop-holds
-    record-at-requires
+    mul-t13
+    element-copy-out-t17
+    mul-t13-2
+    element-copy-out-t17-2
+    mul-t13-3
+    element-copy-out-t17-3
     announced-requires
     mul-a1s
     array-write-a1s
-    mul-t19
-    shared-slice-read-t23
+    mul-t24
+    shared-slice-read-t17
+    mul-t13-4
+    element-copy-out-t30
     announced-requires-2
     mul-a2s
     array-write-a2s

@@ -3,7 +3,7 @@ use mathlib.Core.Path.{sym, ap, _∙_}
 use borrow.Author.Needs.{needs}
 use borrow.Author.Tests.{eq-eqb, ne-eqb}
 use lib.Dec.{eqb}
-use Rattle.posted.proofs.Conjunctions.{and-held, and-failed}
+use Rattle.words.proofs.Tests.{and-held, and-failed}
 use Rattle.equality.proofs.logarithms.equations_hold.Statement.{statement}
 use Rattle.equality.proofs.logarithms.equations_hold.Tie as tie
 

@@ -19,8 +19,8 @@ raise-requires c κs = search needs
 returns-3 : tie.Need-returns-3
 unfolding isElement
 returns-3 c =
-    let d = c .before .before in
-    simp (le-leb 1 _ (d .before .if1 .left), lt-ltb _ _ (d .if2 .left), c .before .raise .ensures)
+    let d = c .before in
+    simp (le-leb 1 _ (d .before .if1 .left), lt-ltb _ _ (d .if2 .left), c .raise .ensures)
 
 pub is-element-spec : {M : Type 1} → statement M
 is-element-spec = tie.close (tie.spec returns returns-2 raise-requires returns-3)

@@ -101,7 +101,7 @@ returns c =
     let g = rw z at (l .inv .2) in
     c .times3 .ensures
     ∙ (λ j. mul (a .gr .q) (n j) ((c .before .inverse .ensures ∙ ap (inv (a .gr .q)) g) j))
-    ∙ lagrange-quotient (a .gr .q) (P .0 .prime-q) (a .i) (a .ms .now) (P .1) (P .2)
+    ∙ lagrange-quotient (a .gr) (P .0 .prime-q) (a .i) (a .ms .now) (P .1) (P .2)
 
 pub lagrange-spec : {M : Type 1} → statement M
 lagrange-spec =

@@ -7,7 +7,7 @@ use borrow.Author.Needs.{needs}
 use lib.ListN.{length, drop}
 use Rattle.words.specs.Lists.{map}
 use Rattle.words.proofs.Lists.{All-at, map-length, map-at}
-use Rattle.sharing.specs.Weights.{lagrangeAt, powers}
+use Rattle.sharing.specs.Weights.{lagrangeAt, powersProduct}
 use Rattle.sharing.specs.Answer.{recovered}
 use Rattle.sharing.proofs.Loops.{powers-start, powers-next}
 use Rattle.sharing.proofs.shares.recovered_from.Statement.{statement}
@@ -15,7 +15,7 @@ use Rattle.sharing.proofs.shares.recovered_from.Tie as tie
 
 abbrev Inv-loop : tie.InvT-loop
 Inv-loop gr ms ss product₀ i₀ product i =
-    (i ≤ length ms) × (product .0 ≡ powers (gr .p) (drop i ss) (drop i (map (lagrangeAt (gr .q) ms) ms)))
+    (i ≤ length ms) × (product .0 ≡ powersProduct (gr .p) (drop i ss) (drop i (map (lagrangeAt gr ms) ms)))
 
 abbrev μ-loop : tie.MeasureT-loop
 μ-loop gr ms ss product₀ i₀ product i = i
@@ -60,7 +60,7 @@ loop-again c =
     let a = c .before .before .before .before .before .before .before .before .before .args in
     let P = c .before .before .before .before .before .before .before .before .before .pre in
     let l = c .before .before .before .before .before .before .loop in
-    let f : ℕ → ℕ = lagrangeAt (a .gr .q) (a .ms .now) in
+    let f : ℕ → ℕ = lagrangeAt (a .gr) (a .ms .now) in
     let h : 0 < l .i = omega arith in
     let b : l .i - 1 < length (a .ms .now) = omega arith in
     let e = c .before .before .before .lagrange .ensures ∙ sym (map-at f (a .ms .now) (l .i - 1) 0 0 b) in (

@@ -4,20 +4,20 @@ use Prim.Native.Nat.{_≤_, _<_}
 use native.Mathlib.Omega.{arith}
 use borrow.Author.Needs.{needs}
 use lib.ListN.{length, drop}
-use Rattle.sharing.specs.Weights.{weightsOf, powers}
+use Rattle.sharing.specs.Weights.{weightsOf, powersProduct}
 use Rattle.sharing.specs.Answer.{degreeProduct}
 use Rattle.sharing.proofs.Loops.{powers-start, powers-next, weights-length, weights-at}
 use Rattle.sharing.proofs.weights.degree_product.Statement.{statement}
 use Rattle.sharing.proofs.weights.degree_product.Tie as tie
 
 abbrev Inv-loop : tie.InvT-loop
-Inv-loop gr n vs cs product₀ i₀ product i = (i ≤ n) × (product .0 ≡ powers (gr .p) (drop i vs) (drop i (weightsOf (gr .q) n cs)))
+Inv-loop s vs ds product₀ i₀ product i = (i ≤ s .n) × (product .0 ≡ powersProduct (s .group .p) (drop i vs) (drop i (weightsOf s ds)))
 
 abbrev μ-loop : tie.MeasureT-loop
-μ-loop gr n vs cs product₀ i₀ product i = i
+μ-loop s vs ds product₀ i₀ product i = i
 
 loop-holds : tie.Need-loop-holds Inv-loop μ-loop
-loop-holds c = (search needs, powers-start _ _ _ _ (sym (c .before .before .pre .2)))
+loop-holds c = (search needs, powers-start _ _ _ _ (sym (c .before .before .pre .1)))
 
 weight-requires : tie.Need-weight-requires Inv-loop μ-loop
 weight-requires c κs = search needs
@@ -48,13 +48,13 @@ loop-again c =
     let a = c .before .before .before .before .before .before .before .before .args in
     let P = c .before .before .before .before .before .before .before .before .pre in
     let l = c .before .before .before .before .before .loop in
-    let es = weightsOf (a .gr .q) (a .n) (a .cs .now) in
+    let es = weightsOf (a .s) (a .ds .now) in
     let h : 0 < l .i = omega arith in
-    let b : l .i ≤ length (a .vs .now) = omega (arith, P .2) in
-    let e = c .before .before .before .weight .ensures ∙ sym (weights-at (a .gr .q) (a .n) (a .cs .now) (l .i) h (l .inv .0)) in (
+    let b : l .i ≤ length (a .vs .now) = omega (arith, P .1) in
+    let e = c .before .before .before .weight .ensures ∙ sym (weights-at (a .s) (a .ds .now) (l .i) h (l .inv .0)) in (
       search needs,
       rw (c .times .ensures, c .before .power .ensures, e, l .inv .1)
-          (powers-next (a .gr .p) (a .vs .now) es (l .i) h b (weights-length (a .gr .q) (a .n) (a .cs .now) ∙ sym (P .2))),
+          (powers-next (a .s .group .p) (a .vs .now) es (l .i) h b (weights-length (a .s) (a .ds .now) ∙ sym (P .1))),
     )
 
 returns : tie.Need-returns Inv-loop μ-loop

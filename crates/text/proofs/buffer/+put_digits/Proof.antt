@@ -4,7 +4,7 @@ use native.Mathlib.Omega.{arith}
 use borrow.Fn.Kinds.{In}
 use borrow.Fn.PlainCycle.{Measures, is, falls, and}
 use lib.ListN.{length-set}
-use Rattle.text.proofs.Figures.{one-room, one-digit, others-room, last-room, last-digit}
+use Rattle.text.proofs.Decimals.{one-room, one-digit, others-room, last-room, last-digit}
 use Rattle.text.proofs.buffer.put_digits.Reads as put-digits
 use Rattle.text.proofs.buffer.put_digits.Kinds as put-digits-kinds
 use Rattle.text.proofs.buffer.+put_digits.Lts-put_digits as put-digits-lts

@@ -2,7 +2,7 @@
 use mathlib.Core.Path.{_∙_}
 use native.Mathlib.Omega.{arith}
 use lib.ListN.{length-set}
-use Rattle.text.proofs.Figures.{space-room, digits-room, figure-written}
+use Rattle.text.proofs.Decimals.{space-room, digits-room, figure-written}
 use Rattle.text.proofs.buffer.put_figure.Statement.{statement}
 use Rattle.text.proofs.buffer.put_figure.Tie as tie
 

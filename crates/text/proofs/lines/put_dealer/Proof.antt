@@ -1,7 +1,8 @@
 -- `put_dealer` meets its contract: the dealer's number, a space, the verdict and the line end are written one behind the other.
-use mathlib.Core.Path.{refl, _∙_}
+use mathlib.Core.Path.{refl}
 use mathlib.Core.List.{List, [], _∷_, _++_}
 use Prim.Native.Nat.{ℕ}
+use native.Mathlib.Omega.{arith}
 use Rattle.text.specs.Text.{figure, newLine, dealerWord, verdictText, dealerLine}
 use Rattle.text.proofs.Writing.{first-room, second-room, third-room, fourth-room, all-four}
 use Rattle.text.proofs.lines.put_dealer.Statement.{statement}
@@ -51,11 +52,7 @@ put-bytes-requires-2 c κs =
     (u .put-verdict .ensures)
 
 same-length : tie.Need-same-length
-same-length c =
-    let x = c .before .before in
-    let u = x .before .before .before .before .before in
-    let v = u .before .before .before .before in
-    x .put-bytes2 .kept .0 ∙ u .put-verdict .kept .0 ∙ v .put-bytes .kept .0 ∙ v .before .before .before .before .before .put-worded .kept .0
+same-length c = omega arith
 
 returns : tie.Need-returns
 unfolding dealerLine

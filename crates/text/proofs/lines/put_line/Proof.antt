@@ -1,7 +1,8 @@
 -- `put_line` meets its contract: the line end is written behind the word and the figure.
-use mathlib.Core.Path.{_≡_, refl, sym, _∙_}
+use mathlib.Core.Path.{_≡_, refl, sym}
 use mathlib.Core.List.{List, _++_, append-assoc}
 use Prim.Native.Nat.{ℕ}
+use native.Mathlib.Omega.{arith}
 use Rattle.text.specs.Text.{figure, newLine}
 use Rattle.text.proofs.Writing.{room-as, written-as, room-first, room-rest, both}
 use Rattle.text.proofs.lines.put_line.Statement.{statement}
@@ -26,9 +27,7 @@ put-bytes-requires c κs =
     room-rest (s .args .word .now ++ figure (s .args .v)) newLine (room-as (two (s .args .word .now) (s .args .v)) (s .pre)) (w .put-worded .ensures)
 
 same-length : tie.Need-same-length
-same-length c =
-    let n = c .before .before in
-    n .put-bytes .kept .0 ∙ n .before .before .before .before .before .put-worded .kept .0
+same-length c = omega arith
 
 returns : tie.Need-returns
 returns c =

@@ -12,11 +12,11 @@ use Rattle.text.proofs.report.put_dealers.Statement.{statement}
 use Rattle.text.proofs.report.put_dealers.Tie as tie
 
 abbrev Inv-loop : tie.InvT-loop
-Inv-loop out₀ at n seats next₀ i₀ out next i =
-    (i ≤ n) × (length out ≡ length out₀) × Written at (dealerLines 1 (verdictsAt i seats)) out₀ out next
+Inv-loop out₀ at n ws next₀ i₀ out next i =
+    (i ≤ n) × (length out ≡ length out₀) × Written at (dealerLines 1 (verdictsAt i ws)) out₀ out next
 
 abbrev μ-loop : tie.MeasureT-loop
-μ-loop out₀ at n seats next₀ i₀ out next i = n - i
+μ-loop out₀ at n ws next₀ i₀ out next i = n - i
 
 loop-holds : tie.Need-loop-holds Inv-loop μ-loop
 loop-holds c = let a = c .before .args in (omega arith, refl, written-none (a .at) (a .at) (a .out .now) refl)
@@ -24,11 +24,11 @@ loop-holds c = let a = c .before .args in (omega arith, refl, written-none (a .a
 cast-place : tie.Need-cast-place Inv-loop μ-loop
 cast-place c = omega arith
 
-mul-seat : tie.Need-mul-seat Inv-loop μ-loop
-mul-seat c = omega arith
+mul-held : tie.Need-mul-held Inv-loop μ-loop
+mul-held c = omega arith
 
-array-copy-out-seat : tie.Need-array-copy-out-seat Inv-loop μ-loop
-array-copy-out-seat c = omega arith
+array-copy-out-held : tie.Need-array-copy-out-held Inv-loop μ-loop
+array-copy-out-held c = omega arith
 
 add-put-dealer : tie.Need-add-put-dealer Inv-loop μ-loop
 add-put-dealer c = omega arith
@@ -74,8 +74,8 @@ put-dealers-spec =
     μ-loop
     loop-holds
     cast-place
-    mul-seat
-    array-copy-out-seat
+    mul-held
+    array-copy-out-held
     add-put-dealer
     put-dealer-requires
     add-i

@@ -1,10 +1,11 @@
 -- `put_report` meets its contract: the four parts are written one behind the other.
-use mathlib.Core.Path.{refl, _∙_}
+use mathlib.Core.Path.{refl}
 use mathlib.Core.List.{List}
 use Prim.Native.Nat.{ℕ}
+use native.Mathlib.Omega.{arith}
 use Rattle.group.specs.Answer.{elementOutcomeOf}
-use Rattle.sharing.specs.declared.Round.{Round}
-use Rattle.verdicts.specs.declared.Judged.{Judged}
+use Rattle.sharing.specs.declared.Setting.{Setting}
+use Rattle.verdicts.specs.declared.Judgement.{Judgement}
 use Rattle.text.specs.Text.{dealerLines, drawLine, roundLine, acceptedLine}
 use Rattle.text.specs.Report.{verdictsAt, reportFrom}
 use Rattle.text.proofs.Writing.{first-room, second-room, third-room, fourth-room, all-four}
@@ -12,28 +13,28 @@ use Rattle.text.proofs.report.put_report.Statement.{statement}
 use Rattle.text.proofs.report.put_report.Tie as tie
 
 -- the lines of the dealers, and the last line
-abbrev dealers : Round → Judged → List ℕ
-dealers R A = dealerLines 1 (verdictsAt (R .n) (A .seats))
+abbrev dealers : Setting → Judgement → List ℕ
+dealers S A = dealerLines 1 (verdictsAt (S .n) (A .verdicts))
 
-abbrev last : Judged → List ℕ
+abbrev last : Judgement → List ℕ
 last A = drawLine (elementOutcomeOf (A .draw))
 
 put-round-requires : tie.Need-put-round-requires
 unfolding reportFrom
 put-round-requires c κs =
     let s = c .before .before .before in
-    let R = s .args .rd in
-    let A = s .args .judged in
-    first-room (roundLine R) (dealers R A) (acceptedLine (A .accepted)) (last A) (s .pre .1)
+    let S = s .args .s in
+    let A = s .args .judgement in
+    first-room (roundLine S) (dealers S A) (acceptedLine (A .accepted)) (last A) (s .pre .1)
 
 put-dealers-requires : tie.Need-put-dealers-requires
 unfolding reportFrom
 put-dealers-requires c κs =
     let u = c .before .before .before in
     let s = u .before .before .before .before in
-    let R = s .args .rd in
-    let A = s .args .judged in
-    (s .pre .0, second-room (roundLine R) (dealers R A) (acceptedLine (A .accepted)) (last A) (s .pre .1) (u .put-round .ensures))
+    let S = s .args .s in
+    let A = s .args .judgement in
+    (s .pre .0, second-room (roundLine S) (dealers S A) (acceptedLine (A .accepted)) (last A) (s .pre .1) (u .put-round .ensures))
 
 slice-aggregate-put-line : tie.Need-slice-aggregate-put-line
 slice-aggregate-put-line c = refl
@@ -44,9 +45,9 @@ put-line-requires c κs =
     let v = c .before .before .before .before in
     let u = v .before .before .before .before in
     let s = u .before .before .before .before in
-    let R = s .args .rd in
-    let A = s .args .judged in
-    third-room (roundLine R) (dealers R A) (acceptedLine (A .accepted)) (last A) (s .pre .1) (u .put-round .ensures) (v .put-dealers .ensures)
+    let S = s .args .s in
+    let A = s .args .judgement in
+    third-room (roundLine S) (dealers S A) (acceptedLine (A .accepted)) (last A) (s .pre .1) (u .put-round .ensures) (v .put-dealers .ensures)
 
 put-draw-requires : tie.Need-put-draw-requires
 unfolding reportFrom acceptedLine
@@ -55,18 +56,13 @@ put-draw-requires c κs =
     let v = w .before .before .before .before .before in
     let u = v .before .before .before .before in
     let s = u .before .before .before .before in
-    let R = s .args .rd in
-    let A = s .args .judged in
-    fourth-room (roundLine R) (dealers R A) (acceptedLine (A .accepted)) (last A) (s .pre .1) (u .put-round .ensures) (v .put-dealers .ensures)
+    let S = s .args .s in
+    let A = s .args .judgement in
+    fourth-room (roundLine S) (dealers S A) (acceptedLine (A .accepted)) (last A) (s .pre .1) (u .put-round .ensures) (v .put-dealers .ensures)
     (w .put-line .ensures)
 
 same-length : tie.Need-same-length
-same-length c =
-    let x = c .before .before in
-    let w = x .before .before .before .before in
-    let v = w .before .before .before .before .before in
-    let u = v .before .before .before .before in
-    x .put-draw .kept .0 ∙ w .put-line .kept .0 ∙ v .put-dealers .kept .0 ∙ u .put-round .kept .0
+same-length c = omega arith
 
 returns : tie.Need-returns
 unfolding reportFrom acceptedLine
@@ -76,9 +72,9 @@ returns c =
     let v = w .before .before .before .before .before in
     let u = v .before .before .before .before in
     let s = u .before .before .before .before in
-    let R = s .args .rd in
-    let A = s .args .judged in
-    all-four (roundLine R) (dealers R A) (acceptedLine (A .accepted)) (last A) (s .pre .1) (u .put-round .ensures) (v .put-dealers .ensures)
+    let S = s .args .s in
+    let A = s .args .judgement in
+    all-four (roundLine S) (dealers S A) (acceptedLine (A .accepted)) (last A) (s .pre .1) (u .put-round .ensures) (v .put-dealers .ensures)
     (w .put-line .ensures)
     (x .put-draw .ensures)
 

@@ -1,10 +1,9 @@
 -- `accepted_share` meets its contract: a share's member is one of 1 to n, so his key and his line are there.
-use mathlib.Core.Path.{_≡_, ap, _∙_}
-use Prim.Native.Nat.{_+_, _-_, _*_}
+use mathlib.Core.Path.{ap, _∙_}
 use native.Mathlib.Omega.{arith}
 use borrow.Author.Needs.{needs}
-use Rattle.posted.specs.Records.{recordAt}
-use Rattle.verdicts.proofs.ShareAnswers.{dealt-sorted, few-records, share-member, lines-length, answered}
+use Rattle.records.specs.Layout.{recordAt}
+use Rattle.verdicts.proofs.ShareAnswers.{lines-sorted, lines-length, share-member, share-dealer, answered}
 use Rattle.verdicts.proofs.shares.accepted_share.Statement.{statement}
 use Rattle.verdicts.proofs.shares.accepted_share.Tie as tie
 
@@ -12,7 +11,7 @@ record-at-requires : tie.Need-record-at-requires
 record-at-requires c κs = omega (arith, c .before .before .pre .0 .inside)
 
 find-key-requires : tie.Need-find-key-requires
-find-key-requires c κs = dealt-sorted (c .before .before .before .pre .1)
+find-key-requires c κs = lines-sorted (c .before .before .before .pre .1)
 
 record-at-requires-2 : tie.Need-record-at-requires-2
 record-at-requires-2 c κs =
@@ -35,35 +34,21 @@ record-at-requires-3 c κs =
     let m = share-member (w .pre .1) (w .pre .0) (r .record-at .ensures) in
     omega (arith, m .0, m .1, lines-length (w .pre .1))
 
-mul-from : tie.Need-mul-from
-mul-from c = let w = c .before .before .before .before .before .before .before in omega (arith, w .pre .0 .inside, few-records (w .pre .1))
-
-add-to : tie.Need-add-to
-add-to c = let w = c .before .before .before .before .before .before .before in omega (arith, w .pre .0 .inside, few-records (w .pre .1))
-
-sub-judge-share : tie.Need-sub-judge-share
-sub-judge-share c = search needs
-
-part-judge-share-start : tie.Need-part-judge-share-start
-part-judge-share-start c = search needs
-
-part-judge-share-end : tie.Need-part-judge-share-end
-part-judge-share-end c = omega (arith, c .before .before .before .before .before .before .before .pre .0 .inside)
-
-judge-share-requires : tie.Need-judge-share-requires
-judge-share-requires c κs = search needs
+judge-share-figures-requires : tie.Need-judge-share-figures-requires
+judge-share-figures-requires c κs =
+    let r = c .before .before .before .before in
+    let w = r .before .before .before in
+    (w .pre .1 .proper, share-dealer (w .pre .1) (w .pre .0), share-member (w .pre .1) (w .pre .0) (r .record-at .ensures) .1)
 
 returns : tie.Need-returns
 returns c =
-    let l = c .before .before in
+    let l = c .before in
     let k = l .before .before in
     let f = k .before in
     let r = f .before in
     let w = r .before .before .before in
-    let b = w .args .b .now in
-    let z : 32 * w .args .i + 32 - 32 * w .args .i ≡ 32 = omega arith in
-    c .judge-share .ensures
-    ∙ answered (w .pre .1) (w .args .i) (r .record-at .ensures) (k .record-at2 .ensures ∙ ap (recordAt b) (f .find-key .ensures)) (l .record-at3 .ensures) z
+    c .judge-share-figures .ensures
+    ∙ answered (w .pre .1) (w .pre .0) (r .record-at .ensures) (k .record-at2 .ensures ∙ ap (recordAt (w .args .b .now)) (f .find-key .ensures)) (l .record-at3 .ensures)
 
 pub accepted-share-spec : {M : Type 1} → statement M
 accepted-share-spec =
@@ -75,10 +60,5 @@ accepted-share-spec =
     cast-at
     sub-at
     record-at-requires-3
-    mul-from
-    add-to
-    sub-judge-share
-    part-judge-share-start
-    part-judge-share-end
-    judge-share-requires
+    judge-share-figures-requires
     returns)

@@ -2,6 +2,7 @@
 use mathlib.Core.Path.{ap}
 use borrow.Author.Needs.{needs}
 use Rattle.words.specs.declared.Record.{Record}
+use Rattle.records.specs.Layout.{memberOf}
 use Rattle.verdicts.proofs.ShareAnswers.{with-none, with-one}
 use Rattle.verdicts.proofs.shares.with_share.Statement.{statement}
 use Rattle.verdicts.proofs.shares.with_share.Tie as tie
@@ -9,8 +10,8 @@ use Rattle.verdicts.proofs.shares.with_share.Tie as tie
 accepted-share-requires : tie.Need-accepted-share-requires
 accepted-share-requires c κs = search needs
 
-enum-known-s : tie.Need-enum-known-s
-enum-known-s c = search needs
+enum-known-decrypted : tie.Need-enum-known-decrypted
+enum-known-decrypted c = search needs
 
 enum-told : tie.Need-enum-told
 enum-told c = search needs
@@ -20,7 +21,7 @@ returns c =
     let s = c .before .before in
     let w = s .before .before .before in
     let a = w .args in
-    with-none (a .rd) (a .b .now) (a .d) (a .i) (w .pre .0) (a .found) (s .accepted-share .ensures) (c .enum-told .given .1)
+    with-none (a .s) (a .b .now) (a .d) (a .i) (w .pre .0) (a .found) (s .accepted-share .ensures) (c .enum-told .given .1)
 
 record-at-requires : tie.Need-record-at-requires
 record-at-requires c κs = search needs
@@ -47,14 +48,14 @@ returns-2 c =
     let s = v .before .before in
     let w = s .before .before .before in
     let a = w .args in
-    with-one (a .rd) (a .b .now) (a .d) (a .i) (w .pre .0) (a .found) (s .accepted-share .ensures) _ (v .s .given .1) (ap (λ (x : Record). x .w2) (r .record-at .ensures))
+    with-one (a .s) (a .b .now) (a .d) (a .i) (w .pre .0) (a .found) (s .accepted-share .ensures) _ (v .decrypted .given .1) (ap (λ (r : Record). memberOf r) (r .record-at .ensures))
 
 pub with-share-spec : {M : Type 1} → statement M
 with-share-spec =
     tie.close
     (tie.spec
     accepted-share-requires
-    enum-known-s
+    enum-known-decrypted
     enum-told
     returns
     record-at-requires

@@ -1,11 +1,8 @@
 -- `from_shares` meets its contract: fewer than t found is stuck, and t found are what recovery is given.
-use native.Mathlib.Omega.{arith}
-use mathlib.Core.Path.{subst}
+use mathlib.Core.Path.{sym, _∙_}
 use borrow.Author.Needs.{needs}
-use Rattle.group.specs.Element.{Proper}
 use Rattle.verdicts.specs.Verdict.{judges}
-use Rattle.verdicts.proofs.ShareAnswers.{dealt-ready}
-use Rattle.verdicts.proofs.Secrets.{members-room, shares-room, found-low, found-even, found-few, found-enough}
+use Rattle.verdicts.proofs.Secrets.{members-count, shares-count, members-room, shares-room, found-low, found-few, found-enough}
 use Rattle.verdicts.proofs.verdicts.from_shares.Statement.{statement}
 use Rattle.verdicts.proofs.verdicts.from_shares.Tie as tie
 
@@ -18,38 +15,40 @@ cast-if1 c = search needs
 returns : tie.Need-returns
 returns c =
     let l = c .before .before in
-    found-few judges (l .before .before .before .pre .1) (l .lowest-shares .ensures) (c .if1 .taken)
+    found-few judges (l .before .before .before .pre) (l .lowest-shares .ensures) (c .if1 .taken)
 
-sub-recovered-from : tie.Need-sub-recovered-from
-sub-recovered-from c = search needs
+array-share-prefix-members : tie.Need-array-share-prefix-members
+array-share-prefix-members c =
+    let l = c .before .before .before .before in
+    members-room judges (l .before .before .before .pre) (l .lowest-shares .ensures)
 
-part-recovered-from-start : tie.Need-part-recovered-from-start
-part-recovered-from-start c = search needs
+slice-aggregate-recovered-from : tie.Need-slice-aggregate-recovered-from
+slice-aggregate-recovered-from c =
+    let l = c .before .before .before .before .before in
+    sym (members-count judges (l .before .before .before .pre) (l .lowest-shares .ensures))
 
-part-recovered-from-end : tie.Need-part-recovered-from-end
-part-recovered-from-end c = let l = c .before .before .before .before .before in omega (arith, members-room judges (l .before .before .before .pre .1) (l .lowest-shares .ensures))
+array-share-prefix-shares : tie.Need-array-share-prefix-shares
+array-share-prefix-shares c =
+    let l = c .before .before .before .before .before in
+    shares-room judges (l .before .before .before .pre) (l .lowest-shares .ensures)
 
-sub-recovered-from-2 : tie.Need-sub-recovered-from-2
-sub-recovered-from-2 c = search needs
-
-part-recovered-from-start-2 : tie.Need-part-recovered-from-start-2
-part-recovered-from-start-2 c = search needs
-
-part-recovered-from-end-2 : tie.Need-part-recovered-from-end-2
-part-recovered-from-end-2 c = let l = c .before .before .before .before .before .before .before in omega (arith, shares-room judges (l .before .before .before .pre .1) (l .lowest-shares .ensures))
+slice-aggregate-recovered-from-2 : tie.Need-slice-aggregate-recovered-from-2
+slice-aggregate-recovered-from-2 c =
+    let l = c .before .before .before .before .before .before in
+    sym (shares-count judges (l .before .before .before .pre) (l .lowest-shares .ensures))
 
 recovered-from-requires : tie.Need-recovered-from-requires
 recovered-from-requires c κs =
-    let l = c .before .before .before .before .before .before .before .before in
-    let w = l .before .before .before in
-    (subst Proper (w .pre .0) (dealt-ready (w .pre .1) .proper), found-low judges (w .pre .1) (l .lowest-shares .ensures) (w .pre .0), found-even judges (w .pre .1) (l .lowest-shares .ensures))
+    let l = c .before .before .before .before .before .before in
+    let L = l .before .before .before .pre in
+    let e = l .lowest-shares .ensures in
+    (L .proper .proper, found-low judges L e, members-count judges L e ∙ sym (shares-count judges L e))
 
 returns-2 : tie.Need-returns-2
 returns-2 c =
-    let i = c .before .before .before .before .before .before .before in
+    let i = c .before .before .before .before .before in
     let l = i .before .before in
-    let w = l .before .before .before in
-    found-enough judges (w .pre .1) (l .lowest-shares .ensures) (i .if1 .left) (w .pre .0) (c .recovered-from .ensures)
+    found-enough judges (l .before .before .before .pre) (l .lowest-shares .ensures) (i .if1 .left) (c .recovered-from .ensures)
 
 pub from-shares-spec : {M : Type 1} → statement M
 from-shares-spec =
@@ -58,11 +57,9 @@ from-shares-spec =
     lowest-shares-requires
     cast-if1
     returns
-    sub-recovered-from
-    part-recovered-from-start
-    part-recovered-from-end
-    sub-recovered-from-2
-    part-recovered-from-start-2
-    part-recovered-from-end-2
+    array-share-prefix-members
+    slice-aggregate-recovered-from
+    array-share-prefix-shares
+    slice-aggregate-recovered-from-2
     recovered-from-requires
     returns-2)

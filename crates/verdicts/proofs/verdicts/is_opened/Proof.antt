@@ -1,41 +1,23 @@
--- `is_opened` meets its contract: without an opening it is not opened, else what the opening operation answers decides.
+-- `is_opened` meets its contract: without an opening it is not opened, else its figure and its equation decide.
 use mathlib.Core.Path.{_≡_, sym, ap, _∙_}
-use Prim.Native.Nat.{ℕ}
 use native.Mathlib.Omega.{arith}
-use native.Mathlib.Nat.{sub-zero}
 use borrow.Author.Needs.{needs}
-use lib.ListN.{take}
+use lib.ListN.{length, take}
 use Rattle.words.specs.declared.Record.{Record}
-use Rattle.sharing.specs.Answer.{checkOutcomeOf}
-use Rattle.sharing.specs.Carried.{isValue}
-use Rattle.posted.specs.Records.{recordAt}
-use Rattle.posted.proofs.Filled.{members-front}
-use Rattle.verdicts.specs.Verdict.{isOpened}
-use Rattle.verdicts.proofs.ShareAnswers.{dealt-ready, dealt-sorted, lines-length}
-use Rattle.verdicts.proofs.Secrets.{opened-none, opened-told}
+use Rattle.words.proofs.Lists.{map-length, up-length}
+use Rattle.words.proofs.Tests.{passed, failed}
+use Rattle.records.specs.Layout.{uOf, recordAt}
+use Rattle.records.proofs.Members.{members-front}
+use Rattle.sharing.specs.Setting.{members}
+use Rattle.dealing.specs.Dealing.{vIn, vsIn}
+use Rattle.dealing.specs.declared.Columns.{Columns}
+use Rattle.verdicts.proofs.ShareAnswers.{lines-sorted, lines-length}
+use Rattle.verdicts.proofs.Secrets.{full-taken, opened-none, opened-high, opened-told}
 use Rattle.verdicts.proofs.verdicts.is_opened.Statement.{statement}
 use Rattle.verdicts.proofs.verdicts.is_opened.Tie as tie
 
--- what the opening operation answers decides
-told : (c : tie.After-opening)
-    → isValue (checkOutcomeOf (c .opening .result))
-    ≡ isOpened (c .before .before .before .before .before .before .before .before .before .before .before .args .rd)
-    (c .before .before .before .before .before .before .before .before .before .before .before .args .b .now)
-    (c .before .before .before .before .before .before .before .before .before .before .before .args .d)
-told c =
-    let k = c .before .before .before .before in
-    let f = k .before .before .before .before in
-    let w = f .before .before .before in
-    let rd = w .args .rd in
-    let b = w .args .b .now in
-    ap isValue (c .opening .ensures)
-    ∙ opened-told rd b (w .args .d) (w .pre .part)
-    (omega (arith, k .before .before .if1 .left, k .before .before .before .records .ensures, f .find-opening .ensures))
-    (ap (λ (x : ℕ). take x (k .column .result)) (sub-zero (rd .n)) ∙ members-front _ (rd .n) (k .column .ensures))
-    (ap (λ (x : Record). x .w3) (c .before .record-at .ensures ∙ ap (recordAt b) (f .find-opening .ensures)))
-
 find-opening-requires : tie.Need-find-opening-requires
-find-opening-requires c κs = dealt-sorted (c .before .before .pre)
+find-opening-requires c κs = lines-sorted (c .before .before .pre)
 
 records-requires : tie.Need-records-requires
 records-requires c κs = search needs
@@ -44,44 +26,66 @@ returns : tie.Need-returns
 returns c =
     let f = c .before .before in
     let a = f .before .before .before .args in
-    opened-none (a .rd) (a .b .now) (a .d) (omega (arith, c .if1 .taken, c .before .records .ensures, f .find-opening .ensures))
-
-cast-n : tie.Need-cast-n
-cast-n c = search needs
-
-column-requires : tie.Need-column-requires
-column-requires c κs =
-    let w = c .before .before .before .before .before .before in
-    (dealt-ready (w .pre) .at-most, lines-length (w .pre), omega arith)
-
-sub-opening : tie.Need-sub-opening
-sub-opening c = search needs
-
-part-opening-start : tie.Need-part-opening-start
-part-opening-start c = search needs
-
-part-opening-end : tie.Need-part-opening-end
-part-opening-end c =
-    let w = c .before .before .before .before .before .before .before .before in
-    omega (arith, dealt-ready (w .pre) .at-most)
+    opened-none (a .s) (a .b .now) (a .d) (omega (arith, c .if1 .taken, c .before .records .ensures, f .find-opening .ensures))
 
 record-at-requires : tie.Need-record-at-requires
 record-at-requires c κs = search needs
 
-opening-requires : tie.Need-opening-requires
-opening-requires c κs = search needs
-
-enum-told : tie.Need-enum-told
-enum-told c = search needs
-
-enum-told-2 : tie.Need-enum-told-2
-enum-told-2 c = search needs
+is-exponent-requires : tie.Need-is-exponent-requires
+is-exponent-requires c κs = search needs
 
 returns-2 : tie.Need-returns-2
-returns-2 c = ap isValue (ap checkOutcomeOf (sym (c .enum-told .given .1))) ∙ told (c .before .before)
+returns-2 c =
+    let r = c .before .before in
+    let i = r .before in
+    let f = i .before .before in
+    let w = f .before .before .before in
+    let b = w .args .b .now in
+    opened-high (w .args .s) b (w .args .d) (w .pre) (omega (arith, i .if1 .left, i .before .records .ensures, f .find-opening .ensures))
+    (ap (λ (x : Record). uOf x) (r .record-at .ensures ∙ ap (recordAt b) (f .find-opening .ensures))) (failed (c .before .is-exponent .ensures) (c .if2 .taken))
+
+cast-n : tie.Need-cast-n
+cast-n c = search needs
+
+read-lines-requires : tie.Need-read-lines-requires
+read-lines-requires c κs =
+    let L = c .before .before .before .before .before .before .before .before .before .pre in
+    (L .proper .n-most, lines-length L)
+
+-- the first n places of the array are the commitments
+front : (c : tie.After-read-lines) → let a = c .before .before .before .before .before .before .before .before .before .before .args in take (a .s .n) (c .read-lines .result .vs) ≡ vsIn (a .s .n) (a .lines .now)
+unfolding vsIn
+front c =
+    let a = c .before .before .before .before .before .before .before .before .before .before .args in
+    members-front (vIn (a .lines .now)) (a .s .n) (ap (λ (t : Columns). t .vs) (c .read-lines .ensures))
+
+count : (c : tie.After-read-lines) → let a = c .before .before .before .before .before .before .before .before .before .before .args in length (take (a .s .n) (c .read-lines .result .vs)) ≡ a .s .n
+unfolding vsIn
+count c =
+    let a = c .before .before .before .before .before .before .before .before .before .before .args in
+    ap length (front c) ∙ map-length (vIn (a .lines .now)) (members (a .s .n)) ∙ up-length 1 (a .s .n)
+
+array-share-prefix-vs : tie.Need-array-share-prefix-vs
+array-share-prefix-vs c = full-taken _ _ (count (c .before))
+
+slice-aggregate-opens : tie.Need-slice-aggregate-opens
+slice-aggregate-opens c = sym (count (c .before .before))
+
+opens-requires : tie.Need-opens-requires
+opens-requires c κs = (c .before .before .before .before .before .before .before .before .before .before .before .before .pre .proper, count (c .before .before))
 
 returns-3 : tie.Need-returns-3
-returns-3 c = ap isValue (ap checkOutcomeOf (sym (c .enum-told2 .given .1))) ∙ told (c .before .before)
+returns-3 c =
+    let l = c .before .before .before in
+    let x = l .before .before in
+    let r = x .before .before in
+    let i = r .before in
+    let f = i .before .before in
+    let w = f .before .before .before in
+    let b = w .args .b .now in
+    c .opens .ensures
+    ∙ opened-told (w .args .s) b (w .args .d) (w .pre) (omega (arith, i .if1 .left, i .before .records .ensures, f .find-opening .ensures))
+    (ap (λ (y : Record). uOf y) (r .record-at .ensures ∙ ap (recordAt b) (f .find-opening .ensures))) (passed (x .before .is-exponent .ensures) (x .if2 .left)) (front l)
 
 pub is-opened-spec : {M : Type 1} → statement M
 is-opened-spec =
@@ -90,14 +94,12 @@ is-opened-spec =
     find-opening-requires
     records-requires
     returns
-    cast-n
-    column-requires
-    sub-opening
-    part-opening-start
-    part-opening-end
     record-at-requires
-    opening-requires
-    enum-told
-    enum-told-2
+    is-exponent-requires
     returns-2
+    cast-n
+    read-lines-requires
+    array-share-prefix-vs
+    slice-aggregate-opens
+    opens-requires
     returns-3)

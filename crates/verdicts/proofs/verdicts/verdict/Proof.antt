@@ -1,14 +1,14 @@
 -- `verdict` meets its contract: the number of his lines decides, and then the judge's answer on them.
 use borrow.Author.Needs.{needs}
 use Rattle.board.proofs.Order.{reached, sorted}
-use Rattle.verdicts.proofs.VerdictAnswers.{no-lines, not-all-lines, all-lines, dealing-refused, dealing-accepted}
+use Rattle.verdicts.proofs.VerdictAnswers.{no-lines, not-all-lines, lines-formed, all-lines, judge-refuses, dealing-accepted}
 use Rattle.verdicts.proofs.verdicts.verdict.Statement.{statement}
 use Rattle.verdicts.proofs.verdicts.verdict.Tie as tie
 
 lines-of-requires : tie.Need-lines-of-requires
 lines-of-requires c κs =
     let w = c .before .before in
-    sorted (reached (w .args .rd) (w .args .b .now) (w .pre .1) .formed)
+    sorted (w .args .s .n) (w .args .b .now) (reached (w .args .s) (w .args .b .now) (w .pre .1) .form)
 
 records-requires : tie.Need-records-requires
 records-requires c κs = search needs
@@ -17,7 +17,7 @@ returns : tie.Need-returns
 returns c =
     let l = c .before .before in
     let w = l .before .before .before in
-    no-lines (w .args .rd) (w .args .b .now) (w .args .d) (w .pre .1) (l .lines-of .ensures .0) (c .before .records .ensures) (c .if1 .taken)
+    no-lines (w .args .s) (w .args .b .now) (w .args .d) (w .pre .0) (w .pre .1) (l .lines-of .ensures .0) (c .before .records .ensures) (c .if1 .taken)
 
 cast-if2 : tie.Need-cast-if2
 cast-if2 c = search needs
@@ -27,10 +27,15 @@ returns-2 c =
     let i = c .before .before in
     let l = i .before .before in
     let w = l .before .before .before in
-    not-all-lines (w .args .rd) (w .args .b .now) (w .args .d) (w .pre .1) (l .lines-of .ensures .0) (i .before .records .ensures) (i .if1 .left) (c .if2 .taken)
+    not-all-lines (w .args .s) (w .args .b .now) (w .args .d) (w .pre .0) (w .pre .1) (l .lines-of .ensures .0) (i .before .records .ensures) (i .if1 .left) (c .if2 .taken)
 
-judge-dealing-requires : tie.Need-judge-dealing-requires
-judge-dealing-requires c κs = search needs
+judge-lines-requires : tie.Need-judge-lines-requires
+judge-lines-requires c κs =
+    let i = c in
+    let r = i .before .before .before in
+    let l = r .before in
+    let w = l .before .before .before in
+    (w .pre .0, lines-formed (w .args .s) (w .args .b .now) (w .args .d) (w .pre .0) (w .pre .1) (l .lines-of .ensures .0) (r .records .ensures) (i .before .before .if1 .left) (i .if2 .left) (w .pre .2))
 
 enum-known-k : tie.Need-enum-known-k
 enum-known-k c = search needs
@@ -40,11 +45,13 @@ enum-told c = search needs
 
 secret-requires : tie.Need-secret-requires
 secret-requires c κs =
-    let i = c .before .before .before in
+    let j = c .before .before in
+    let i = j .before in
     let r = i .before .before .before in
     let l = r .before in
     let w = l .before .before .before in
-    (w .pre .0, all-lines (w .args .rd) (w .args .b .now) (w .args .d) (w .pre .1) (l .lines-of .ensures .0) (r .records .ensures) (i .if2 .left))
+    all-lines (w .args .s) (w .args .b .now) (w .args .d) (w .pre .0) (w .pre .1) (l .lines-of .ensures .0) (r .records .ensures) (i .before .before .if1 .left) (i .if2 .left) (w .pre .2)
+    (j .judge-lines .ensures) (c .enum-told .given .1)
 
 returns-3 : tie.Need-returns-3
 returns-3 c =
@@ -53,8 +60,8 @@ returns-3 c =
     let r = i .before .before .before in
     let l = r .before in
     let w = l .before .before .before in
-    dealing-refused (w .args .rd) (w .args .b .now) (w .args .d) (w .pre .1) (l .lines-of .ensures .0) (r .records .ensures) (i .before .before .if1 .left) (i .if2 .left) (w .pre .2)
-    (j .judge-dealing .ensures) (c .before .k .given .1)
+    judge-refuses (w .args .s) (w .args .b .now) (w .args .d) (w .pre .0) (w .pre .1) (l .lines-of .ensures .0) (r .records .ensures) (i .before .before .if1 .left) (i .if2 .left) (w .pre .2)
+    (j .judge-lines .ensures) (c .before .k .given .1)
 
 returns-4 : tie.Need-returns-4
 returns-4 c =
@@ -63,8 +70,8 @@ returns-4 c =
     let r = i .before .before .before in
     let l = r .before in
     let w = l .before .before .before in
-    dealing-accepted (w .args .rd) (w .args .b .now) (w .args .d) (w .pre .1) (l .lines-of .ensures .0) (r .records .ensures) (i .before .before .if1 .left) (i .if2 .left) (w .pre .2)
-    (j .judge-dealing .ensures) (c .before .enum-told .given .1) (c .secret .ensures)
+    dealing-accepted (w .args .s) (w .args .b .now) (w .args .d) (w .pre .0) (w .pre .1) (l .lines-of .ensures .0) (r .records .ensures) (i .before .before .if1 .left) (i .if2 .left) (w .pre .2)
+    (j .judge-lines .ensures) (c .before .enum-told .given .1) (c .secret .ensures)
 
 pub verdict-spec : {M : Type 1} → statement M
 verdict-spec =
@@ -75,7 +82,7 @@ verdict-spec =
     returns
     cast-if2
     returns-2
-    judge-dealing-requires
+    judge-lines-requires
     enum-known-k
     enum-told
     secret-requires

@@ -43,10 +43,10 @@ wrapping-add-u32-requires-7 c κs = search needs
 
 -- the sums of T₁ and of T₂, one after the other
 module _ (s : State) where
-  first-is : (k w : ℕ) {b x d y z t : ℕ} → b ≡ Σ₁ (s .e) → x ≡ s .h ⊞ b → d ≡ Ch (s .e) (s .f) (s .g) → y ≡ x ⊞ d → z ≡ y ⊞ k → t ≡ z ⊞ w
+  first-sum : (k w : ℕ) {b x d y z t : ℕ} → b ≡ Σ₁ (s .e) → x ≡ s .h ⊞ b → d ≡ Ch (s .e) (s .f) (s .g) → y ≡ x ⊞ d → z ≡ y ⊞ k → t ≡ z ⊞ w
       → t ≡ T₁ s k w
   unfolding T₁
-  first-is k w b x d y z t =
+  first-sum k w b x d y z t =
       let second = y ∙ (λ j. (x ∙ (λ i. s .h ⊞ b i)) j ⊞ d j) in
       t ∙ (λ j. (z ∙ (λ i. second i ⊞ k)) j ⊞ w)
 
@@ -63,7 +63,7 @@ returns c =
     let x = y .before .before in
     let a = x .before .before .args in
     let s = a .self in
-    let fourth = first-is s (a .k) (a .w) (x .before .big-sigma1 .ensures) (x .wrapping-add-u32 .ensures) (y .before .ch .ensures) in
+    let fourth = first-sum s (a .k) (a .w) (x .before .big-sigma1 .ensures) (x .wrapping-add-u32 .ensures) (y .before .ch .ensures) in
     let one = fourth (y .wrapping-add-u322 .ensures) (t1 .before .wrapping-add-u323 .ensures) (t1 .wrapping-add-u324 .ensures) in
     let two = second-is s (t2 .before .before .big-sigma0 .ensures) (t2 .before .maj .ensures) (t2 .wrapping-add-u325 .ensures) in
     let new-a = c .wrapping-add-u327 .ensures ∙ (λ j. one j ⊞ two j) in

@@ -1,0 +1,3 @@
+-- Hashed messages, challenges, and what is claimed of these.
+pub mod Message
+pub mod Claims

@@ -1,4 +1,0 @@
--- Proofs of what specs/Claims.antt states, and the laws that they and the functions' proofs share.
-pub mod Lines
-pub mod Arrays
-pub mod Written

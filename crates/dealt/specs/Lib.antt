@@ -1,2 +1,0 @@
--- What is claimed of written dealings.
-pub mod Claims

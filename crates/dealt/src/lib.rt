@@ -1,4 +1,0 @@
-// Dealings as they are written.
-mod writer;
-
-pub use writer::write_dealing;

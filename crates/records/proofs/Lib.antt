@@ -1,0 +1,4 @@
+-- Laws that the functions' proofs, here and above, share.
+pub mod Members
+pub mod Layouts
+pub mod Posted

@@ -1,0 +1,136 @@
+-- The records of a board and of round.set: one layout for each kind, the tests of their form, and records by number and by member.
+use mathlib.Core.Bool.{Bool, _&&_}
+use mathlib.Core.List.{List, [], _∷_, _++_}
+use Prim.Native.Nat.{ℕ, _-_, _*_}
+use lib.ListN.{getD, take, drop}
+use lib.Dec.{eqb}
+use Rattle.words.specs.Bytes.{recordBytes, recordIn}
+use Rattle.words.specs.declared.Record.{Record}
+
+-- ---- kinds
+abbrev pub keyKind : ℕ
+keyKind = 1
+
+abbrev pub lineKind : ℕ
+lineKind = 2
+
+abbrev pub openingKind : ℕ
+openingKind = 3
+
+abbrev pub shareKind : ℕ
+shareKind = 4
+
+abbrev pub setKind : ℕ
+setKind = 9
+
+-- ---- layouts: the kind, the dealer, the member, then figures; words that nothing names are 0
+-- the key y of member i
+abbrev pub keyLayout : ℕ → ℕ → Record
+keyLayout i y = record { w0 = keyKind; w1 = 0; w2 = i; w3 = y; w4 = 0; w5 = 0; w6 = 0; w7 = 0 }
+
+-- the line of dealer d for member i: a commitment v and an encrypted share Y with its proof, response r and challenge c
+abbrev pub lineLayout : ℕ → ℕ → ℕ → ℕ → ℕ → ℕ → Record
+lineLayout d i v Y r c = record { w0 = lineKind; w1 = d; w2 = i; w3 = v; w4 = Y; w5 = r; w6 = c; w7 = 0 }
+
+-- the opening u of dealer d
+abbrev pub openingLayout : ℕ → ℕ → Record
+openingLayout d u = record { w0 = openingKind; w1 = d; w2 = 0; w3 = u; w4 = 0; w5 = 0; w6 = 0; w7 = 0 }
+
+-- an opened share (a decrypted share) Z, the paper's S, of dealer d and member i with its proof, challenge c and response r
+abbrev pub shareLayout : ℕ → ℕ → ℕ → ℕ → ℕ → Record
+shareLayout d i Z c r = record { w0 = shareKind; w1 = d; w2 = i; w3 = Z; w4 = c; w5 = r; w6 = 0; w7 = 0 }
+
+-- the round: the group's number g, n and t
+abbrev pub setLayout : ℕ → ℕ → ℕ → Record
+setLayout g n t = record { w0 = setKind; w1 = g; w2 = n; w3 = t; w4 = 0; w5 = 0; w6 = 0; w7 = 0 }
+
+-- ---- the figures of a record
+abbrev pub dealerOf : Record → ℕ
+dealerOf r = r .w1
+
+abbrev pub memberOf : Record → ℕ
+memberOf r = r .w2
+
+-- of a key
+abbrev pub yOf : Record → ℕ
+yOf r = r .w3
+
+-- of a line
+abbrev pub vOf : Record → ℕ
+vOf r = r .w3
+
+abbrev pub YOf : Record → ℕ
+YOf r = r .w4
+
+abbrev pub rOf : Record → ℕ
+rOf r = r .w5
+
+abbrev pub cOf : Record → ℕ
+cOf r = r .w6
+
+-- of an opening
+abbrev pub uOf : Record → ℕ
+uOf r = r .w3
+
+-- of an opened share
+abbrev pub ZOf : Record → ℕ
+ZOf r = r .w3
+
+abbrev pub shareC : Record → ℕ
+shareC r = r .w4
+
+abbrev pub shareR : Record → ℕ
+shareR r = r .w5
+
+-- of round.set
+abbrev pub setGroup : Record → ℕ
+setGroup r = r .w1
+
+abbrev pub setN : Record → ℕ
+setN r = r .w2
+
+abbrev pub setT : Record → ℕ
+setT r = r .w3
+
+-- ---- form: a record agrees with its kind's layout of its own figures
+-- words 0 to 6 are the same; word 7 is tested apart
+unfoldable pub agrees : Record → Record → Bool
+agrees r s =
+    eqb (r .w0) (s .w0)
+    && (eqb (r .w1) (s .w1) && (eqb (r .w2) (s .w2) && (eqb (r .w3) (s .w3) && (eqb (r .w4) (s .w4) && (eqb (r .w5) (s .w5) && eqb (r .w6) (s .w6))))))
+
+abbrev pub isRoundless : Record → Bool
+isRoundless r = eqb (r .w7) 0
+
+abbrev pub isKeyRecord : Record → Bool
+isKeyRecord r = agrees r (keyLayout (memberOf r) (yOf r))
+
+abbrev pub isLineRecord : Record → Bool
+isLineRecord r = agrees r (lineLayout (dealerOf r) (memberOf r) (vOf r) (YOf r) (rOf r) (cOf r))
+
+abbrev pub isOpeningRecord : Record → Bool
+isOpeningRecord r = agrees r (openingLayout (dealerOf r) (uOf r))
+
+abbrev pub isShareRecord : Record → Bool
+isShareRecord r = agrees r (shareLayout (dealerOf r) (memberOf r) (ZOf r) (shareC r) (shareR r))
+
+abbrev pub isSetRecord : Record → Bool
+isSetRecord r = agrees r (setLayout (setGroup r) (setN r) (setT r))
+
+-- ---- many
+-- the figure of member i in a list of the members' figures
+unfoldable pub entry : List ℕ → ℕ → ℕ
+entry l i = getD l (i - 1) 0
+
+-- the record number k, from 0, of bytes that hold records
+unfoldable pub recordAt : List ℕ → ℕ → Record
+recordAt b k = recordIn (take 32 (drop (32 * k) b))
+
+-- the record of member i among the members' records
+abbrev pub recordOf : List ℕ → ℕ → Record
+recordOf b i = recordAt b (i - 1)
+
+-- the bytes of the record of each member of a list
+unfoldable pub recordsBytes : (ℕ → Record) → List ℕ → List ℕ
+recordsBytes f [] = []
+recordsBytes f (i ∷ is) = recordBytes (f i) ++ recordsBytes f is

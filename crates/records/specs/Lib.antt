@@ -1,0 +1,4 @@
+-- Records by kind, the members' records, keys, and what is claimed of forms.
+pub mod Layout
+pub mod Keys
+pub mod Claims

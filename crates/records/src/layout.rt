@@ -1,0 +1,192 @@
+// One layout for each kind of record, the tests of their form, and a record by its number.
+ghost use mathlib.Core.Path.{_≡_};
+ghost use Prim.Native.Nat.{_+_, _*_, _≤_};
+ghost use lib.ListN.{length};
+ghost use Rattle.records.specs.Layout.{keyLayout, lineLayout, openingLayout, shareLayout, setLayout, recordAt};
+ghost use Rattle.records.specs.Layout.{agrees, isRoundless, isKeyRecord, isLineRecord, isOpeningRecord, isShareRecord, isSetRecord};
+use group::Element;
+use group::Exponent;
+use words::Record;
+
+pub const KEY: u32 = 1;
+
+pub const LINE: u32 = 2;
+
+pub const OPENING: u32 = 3;
+
+pub const SHARE: u32 = 4;
+
+pub const SET: u32 = 9;
+
+// The key y of member i.
+pub fn key_record(i: u32, y: Element) -> Record
+    ensures { λ a. ⌜ a ≡ keyLayout i (y .0) ⌝ }
+{
+    Record {
+        w0: KEY,
+        w1: 0,
+        w2: i,
+        w3: y.0,
+        w4: 0,
+        w5: 0,
+        w6: 0,
+        w7: 0,
+    }
+}
+
+// The line of dealer d for member i: a commitment, an encrypted share, and its proof's response and challenge.
+pub fn line_record(
+    d: u32,
+    i: u32,
+    v: Element,
+    encrypted: Element,
+    r: Exponent,
+    c: Exponent,
+) -> Record
+    ensures { λ a. ⌜ a ≡ lineLayout d i (v .0) (encrypted .0) (r .0) (c .0) ⌝ }
+{
+    Record {
+        w0: LINE,
+        w1: d,
+        w2: i,
+        w3: v.0,
+        w4: encrypted.0,
+        w5: r.0,
+        w6: c.0,
+        w7: 0,
+    }
+}
+
+// The opening of dealer d.
+pub fn opening_record(d: u32, u: Exponent) -> Record
+    ensures { λ a. ⌜ a ≡ openingLayout d (u .0) ⌝ }
+{
+    Record {
+        w0: OPENING,
+        w1: d,
+        w2: 0,
+        w3: u.0,
+        w4: 0,
+        w5: 0,
+        w6: 0,
+        w7: 0,
+    }
+}
+
+// An opened share (a decrypted share) of dealer d and member i, and its proof's challenge and response.
+pub fn share_record(d: u32, i: u32, decrypted: Element, c: Exponent, r: Exponent) -> Record
+    ensures { λ a. ⌜ a ≡ shareLayout d i (decrypted .0) (c .0) (r .0) ⌝ }
+{
+    Record {
+        w0: SHARE,
+        w1: d,
+        w2: i,
+        w3: decrypted.0,
+        w4: c.0,
+        w5: r.0,
+        w6: 0,
+        w7: 0,
+    }
+}
+
+// The round: the group's number, n and t.
+pub fn set_record(number: u32, n: u32, t: u32) -> Record
+    ensures { λ a. ⌜ a ≡ setLayout number n t ⌝ }
+{
+    Record {
+        w0: SET,
+        w1: number,
+        w2: n,
+        w3: t,
+        w4: 0,
+        w5: 0,
+        w6: 0,
+        w7: 0,
+    }
+}
+
+// Whether words 0 to 6 are the same.
+fn agrees(r: Record, s: Record) -> bool
+    ensures { λ a. ⌜ a ≡ agrees r s ⌝ }
+{
+    if r.w0 != s.w0 {
+        return false;
+    }
+    if r.w1 != s.w1 {
+        return false;
+    }
+    if r.w2 != s.w2 {
+        return false;
+    }
+    if r.w3 != s.w3 {
+        return false;
+    }
+    if r.w4 != s.w4 {
+        return false;
+    }
+    if r.w5 != s.w5 {
+        return false;
+    }
+    r.w6 == s.w6
+}
+
+// Word 7 is 0.
+pub fn is_roundless(r: Record) -> bool
+    ensures { λ a. ⌜ a ≡ isRoundless r ⌝ }
+{
+    r.w7 == 0
+}
+
+pub fn is_key_record(r: Record) -> bool
+    ensures { λ a. ⌜ a ≡ isKeyRecord r ⌝ }
+{
+    agrees(r, key_record(r.w2, Element(r.w3)))
+}
+
+pub fn is_line_record(r: Record) -> bool
+    ensures { λ a. ⌜ a ≡ isLineRecord r ⌝ }
+{
+    agrees(
+        r,
+        line_record(
+            r.w1,
+            r.w2,
+            Element(r.w3),
+            Element(r.w4),
+            Exponent(r.w5),
+            Exponent(r.w6),
+        ),
+    )
+}
+
+pub fn is_opening_record(r: Record) -> bool
+    ensures { λ a. ⌜ a ≡ isOpeningRecord r ⌝ }
+{
+    agrees(r, opening_record(r.w1, Exponent(r.w3)))
+}
+
+pub fn is_share_record(r: Record) -> bool
+    ensures { λ a. ⌜ a ≡ isShareRecord r ⌝ }
+{
+    agrees(
+        r,
+        share_record(r.w1, r.w2, Element(r.w3), Exponent(r.w4), Exponent(r.w5)),
+    )
+}
+
+pub fn is_set_record(r: Record) -> bool
+    ensures { λ a. ⌜ a ≡ isSetRecord r ⌝ }
+{
+    agrees(r, set_record(r.w1, r.w2, r.w3))
+}
+
+// The record number k, from 0, of bytes that hold records.
+// Internal: callers ensure that its bytes are there.
+pub fn record_at(b: &[u8], k: usize) -> Record
+    requires { ⌜ 32 * k + 32 ≤ length (now b) ⌝ }
+    ensures { λ r. ⌜ r ≡ recordAt (now (b .entry)) k ⌝ }
+{
+    let from = 32 * k;
+    let to = from + 32;
+    words::read_record(&b[from..to])
+}

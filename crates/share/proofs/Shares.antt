@@ -1,0 +1,176 @@
+-- Opened shares: accepted exactly if their figures are proper and the challenge is the recomputed one, and what is written is accepted.
+-- The response gives back the announcements of the nonce, so the challenge is recomputed over the same message.
+use mathlib.Core.Path.{_≡_, refl, sym, ap, _∙_, subst}
+use mathlib.Core.Bool.{true}
+use mathlib.Core.List.{List, _++_}
+use Prim.Native.Nat.{ℕ, _^_, _<_}
+use native.Mathlib.Omega.{arith}
+use lib.ListN.{length}
+use Rattle.words.specs.Lists.{Below}
+use Rattle.words.specs.Checks.{value}
+use Rattle.words.specs.Bytes.{recordWords, recordIn}
+use Rattle.words.specs.declared.Record.{Record}
+use Rattle.words.proofs.Checks.{value-exactly, refused-exactly, if-met, if-unmet}
+use Rattle.words.proofs.Stages.{both-met, met-both, rest-outcome}
+use Rattle.words.proofs.Bytes.{record-length, read-back}
+use Rattle.field.specs.Residue.{inv}
+use Rattle.group.specs.Power.{pow}
+use Rattle.group.specs.Element.{isElement}
+use Rattle.group.specs.declared.Element.{Element}
+use Rattle.group.specs.declared.Group.{Group}
+use Rattle.group.proofs.Elements.{power-element}
+use Rattle.sharing.specs.Setting.{ProperSetting, settingIn, roundChecks, judged, judgedElse}
+use Rattle.sharing.specs.declared.Setting.{Setting}
+use Rattle.sharing.proofs.Rounds.{judged-exactly, judged-else-in}
+use Rattle.records.specs.Layout.{shareKind, ZOf}
+use Rattle.challenge.specs.Message.{challengeOf, shareMessage, shareTag}
+use Rattle.equality.specs.Equality.{announced, response}
+use Rattle.share.specs.Share.{keyOf, shareOf, writtenShareC, writtenShareRecord, writtenShare, writeShareChecks, writeShareIn, writeShareOutcome, lentAfterShareIn, lentAfterShare}
+use Rattle.share.specs.Share.{shareRecomputed, shareAdmissionChecks, shareFigureChecks, judgeShareChecks, judgeShareFiguresIn, judgeShareIn, judgeShareOutcome}
+use Rattle.share.specs.Claims.{AcceptedShare, ShareExactly, FiguresDecide, ShareComplete, LentShare, LentShareKept, SharesByRound}
+use Rattle.records.proofs.Layouts.{laid-agrees}
+use Rattle.records.proofs.Posted.{member-word, element-word, exponent-word}
+use Rattle.challenge.proofs.Challenges.{challenge-low}
+use Rattle.equality.proofs.Equal.{response-low, announced-back}
+use Rattle.share.proofs.Settled.{WritableShare, admission-exactly, figures-exactly, write-settled}
+use Rattle.share.proofs.Keys.{h-element, key-proper, share-to-x}
+
+-- ---- judged
+pub share-exactly : ShareExactly
+unfolding judgeShareIn
+share-exactly S d i y Y b =
+    let r = recordIn b in
+    let front = shareAdmissionChecks S d i y Y b in
+    let figures = shareFigureChecks shareTag S d i y Y r in
+    let all-met = value-exactly Element (front ++ figures) (record { 0 = ZOf r }) in (
+      λ e.
+          let m = met-both front figures (all-met .0 e) in
+          record { admitted = admission-exactly S d i y Y b .0 (m .0); holds = figures-exactly shareTag S d i y Y r .0 (m .1) },
+      λ A. all-met .1 (both-met front figures (admission-exactly S d i y Y b .1 (A .admitted)) (figures-exactly shareTag S d i y Y r .1 (A .holds))),
+    )
+
+pub figures-decide : FiguresDecide
+unfolding judgeShareIn judgeShareFiguresIn
+figures-decide S d i y Y b A =
+    rest-outcome (shareAdmissionChecks S d i y Y b) (shareFigureChecks shareTag S d i y Y (recordIn b)) (admission-exactly S d i y Y b .1 A) (record { 0 = ZOf (recordIn b) })
+
+-- ---- written
+module _ (S : Setting) (P : ProperSetting S) (d i Y x w room : ℕ) (W : WritableShare S d i Y x w room) where
+  abbrev G : Group
+  G = S .group
+
+  abbrev Z : ℕ
+  Z = shareOf G Y x
+
+  abbrev y : ℕ
+  y = keyOf G x
+
+  abbrev c : ℕ
+  c = writtenShareC shareTag S d i Y x w
+
+  abbrev written : Record
+  written = writtenShareRecord S d i Y x w
+
+  Z-element : isElement G Z ≡ true
+  unfolding shareOf
+  Z-element = power-element G (P .proper) Y (inv (G .q) x) (W .Y-element)
+
+  c-low : c < G .q
+  unfolding writtenShareC
+  c-low = challenge-low S P _
+
+  -- the announcements are those of the nonce
+  announced-h : announced G (G .h .0) y c (response G w c x) ≡ pow (G .p) (G .h .0) w
+  unfolding keyOf
+  announced-h = announced-back G (P .proper) (G .h .0) w c x (h-element G (P .proper))
+
+  announced-Z : announced G Z Y c (response G w c x) ≡ pow (G .p) Z w
+  announced-Z =
+      ap (λ (v : ℕ). announced G Z v c (response G w c x)) (sym (share-to-x G (P .proper) x (W .x-some) (W .x-low) Y (W .Y-element)))
+      ∙ announced-back G (P .proper) Z w c x Z-element
+
+  recomputed-same : shareRecomputed shareTag S d i y Y written ≡ c
+  unfolding shareRecomputed writtenShareRecord writtenShareC
+  recomputed-same = λ j. challengeOf S (shareMessage shareTag S d i y Y Z (announced-h j) (announced-Z j))
+
+  written-proper : AcceptedShare S d i y Y (writtenShare S d i Y x w) written
+  unfolding writtenShare writtenShareRecord
+  written-proper =
+      record {
+        admitted =
+            record {
+              dealer = W .dealer;
+              member = W .member;
+              size = record-length written;
+              key = key-proper G (P .proper) x (W .x-some) (W .x-low);
+              Y-element = W .Y-element;
+              kind = laid-agrees written;
+              dealer-word = refl;
+              member-word = refl;
+              roundless = refl;
+            };
+        holds = record { Z-element = Z-element; c-low = c-low; r-low = response-low G (P .proper) w c x; challenge = sym recomputed-same };
+      }
+
+  words : Below (2 ^ 32) (recordWords written)
+  unfolding writtenShareRecord
+  words =
+      let kind : shareKind < 2 ^ 32 = omega arith in
+      let spare : 0 < 2 ^ 32 = omega arith in
+      let r-low = response-low G (P .proper) w c x in (
+        kind,
+        (
+          member-word P d (W .dealer .1),
+          (
+            member-word P i (W .member .1),
+            (
+              element-word P Z Z-element,
+              (exponent-word P c c-low, (exponent-word P (response G w c x) r-low, (spare, (spare, tt)))),
+            ),
+          ),
+        ),
+      )
+
+  read-written : recordIn (writtenShare S d i Y x w) ≡ written
+  unfolding writtenShare
+  read-written = read-back written words
+
+  pub written-accepted : judgeShareIn S d i y Y (writtenShare S d i Y x w) ≡ value (record { 0 = Z })
+  unfolding writtenShareRecord
+  written-accepted =
+      let b : List ℕ = writtenShare S d i Y x w in
+      share-exactly S d i y Y b .1 (subst (AcceptedShare S d i y Y b) (sym read-written) written-proper)
+      ∙ ap (λ (r : Record). value (record { 0 = ZOf r })) read-written
+
+pub share-complete : ShareComplete
+unfolding writeShareIn
+share-complete S P d i Y x w e =
+    written-accepted S P d i Y x w 32 (write-settled S d i Y x w 32 (value-exactly Unit (writeShareChecks S d i Y x w 32) tt .0 e))
+
+-- ---- the lent bytes
+pub lent-share : LentShare
+unfolding writeShareIn lentAfterShareIn
+lent-share S P d i Y x w out e =
+    let checks = writeShareChecks S d i Y x w (length out) in
+    let m = value-exactly Unit checks tt .0 e in
+    ap (judgeShareIn S d i (keyOf (S .group) x) Y) (if-met (writtenShare S d i Y x w) out checks m)
+    ∙ written-accepted S P d i Y x w (length out) (write-settled S d i Y x w (length out) m)
+
+pub lent-share-kept : LentShareKept
+unfolding writeShareIn lentAfterShareIn
+lent-share-kept S d i Y x w out k e =
+    let checks = writeShareChecks S d i Y x w (length out) in
+    if-unmet (writtenShare S d i Y x w) out checks k (refused-exactly Unit checks tt k .0 e)
+
+-- ---- over a round
+pub shares-by-round : SharesByRound
+unfolding judgeShareOutcome judgeShareIn writeShareOutcome writeShareIn lentAfterShare lentAfterShareIn judged judgedElse
+shares-by-round R =
+    record {
+      accepted = λ d i y Y b. judged-exactly R (λ S. judgeShareChecks S d i y Y b) (λ S. record { 0 = ZOf (recordIn b) });
+      written = λ d i Y x w room. judged-exactly R (λ S. writeShareChecks S d i Y x w room) (λ S. tt) tt;
+      lent = λ d i Y x w out m. judged-else-in R (λ S. writeShareChecks S d i Y x w (length out)) (λ S. writtenShare S d i Y x w) m out;
+      kept = λ d i Y x w out k e.
+          let checks = roundChecks R ++ writeShareChecks (settingIn R) d i Y x w (length out) in
+          if-unmet (writtenShare (settingIn R) d i Y x w) out checks k (refused-exactly Unit checks tt k .0 e);
+    }

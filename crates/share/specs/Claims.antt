@@ -1,0 +1,97 @@
+-- What is claimed of opened shares, for every proper setting: demand 2 for what a member posts. SharesByRound reads it off for rounds.
+use mathlib.Core.Path.{_≡_}
+use mathlib.Core.Bool.{true}
+use mathlib.Core.List.{List}
+use mathlib.Core.Logic.{_↔_}
+use Prim.Native.Nat.{ℕ, _<_, _≤_}
+use lib.ListN.{length}
+use Rattle.words.specs.Checks.{value, refused, Met}
+use Rattle.words.specs.Bytes.{recordIn}
+use Rattle.words.specs.declared.Record.{Record}
+use Rattle.group.specs.Power.{pow}
+use Rattle.group.specs.Element.{isElement, Proper}
+use Rattle.group.specs.declared.Element.{Element}
+use Rattle.group.specs.declared.Group.{Group}
+use Rattle.sharing.specs.Setting.{ProperSetting, settingIn, roundChecks}
+use Rattle.sharing.specs.declared.Round.{Round}
+use Rattle.sharing.specs.declared.Setting.{Setting}
+use Rattle.records.specs.Layout.{isShareRecord, isRoundless, dealerOf, memberOf, ZOf, shareC, shareR}
+use Rattle.records.specs.Keys.{isKey}
+use Rattle.challenge.specs.Message.{shareTag}
+use Rattle.share.specs.Share.{keyOf, shareOf, writtenShare, writeShareIn, writeShareOutcome, lentAfterShareIn, lentAfterShare}
+use Rattle.share.specs.Share.{shareRecomputed, judgeShareFiguresIn, judgeShareIn, judgeShareOutcome}
+
+-- ---- an accepted share
+-- what is settled before the figures: the numbers, what is handed over, and the form of the record r in the bytes b
+pub record AdmittedShare (S : Setting) (d i y Y : ℕ) (b : List ℕ) (r : Record) : Type 0 where
+  pub dealer : (1 ≤ d) × (d ≤ S .n)
+  pub member : (1 ≤ i) × (i ≤ S .n)
+  pub size : length b ≡ 32
+  pub key : isKey (S .group) y ≡ true
+  pub Y-element : isElement (S .group) Y ≡ true
+  pub kind : isShareRecord r ≡ true
+  pub dealer-word : dealerOf r ≡ d
+  pub member-word : memberOf r ≡ i
+  pub roundless : isRoundless r ≡ true
+
+-- the figures of the record r, in a message of that tag
+pub record ShareHolds (tag : ℕ) (S : Setting) (d i y Y : ℕ) (r : Record) : Type 0 where
+  pub Z-element : isElement (S .group) (ZOf r) ≡ true
+  pub c-low : shareC r < S .group .q
+  pub r-low : shareR r < S .group .q
+  pub challenge : shareC r ≡ shareRecomputed tag S d i y Y r
+
+pub record AcceptedShare (S : Setting) (d i y Y : ℕ) (b : List ℕ) (r : Record) : Type 0 where
+  pub admitted : AdmittedShare S d i y Y b r
+  pub holds : ShareHolds shareTag S d i y Y r
+
+-- a share is accepted, and answers its Z, exactly if all that holds
+abbrev pub ShareExactly : Type 0
+ShareExactly =
+    (S : Setting) (d i y Y : ℕ) (b : List ℕ)
+    → (judgeShareIn S d i y Y b ≡ value (record { 0 = ZOf (recordIn b) })) ↔ AcceptedShare S d i y Y b (recordIn b)
+
+-- where all before the figures is settled, they alone decide
+abbrev pub FiguresDecide : Type 0
+FiguresDecide =
+    (S : Setting) (d i y Y : ℕ) (b : List ℕ) → AdmittedShare S d i y Y b (recordIn b)
+    → judgeShareFiguresIn shareTag S d i y Y (recordIn b) ≡ judgeShareIn S d i y Y b
+
+-- ---- a written share
+-- what is written from a secret key is accepted with its key, and answers Z
+abbrev pub ShareComplete : Type 0
+ShareComplete =
+    (S : Setting) → ProperSetting S → (d i Y x w : ℕ) → writeShareIn S d i Y x w 32 ≡ value tt
+    → judgeShareIn S d i (keyOf (S .group) x) Y (writtenShare S d i Y x w) ≡ value (record { 0 = shareOf (S .group) Y x })
+
+-- the lent bytes are accepted where nothing is refused
+abbrev pub LentShare : Type 0
+LentShare =
+    (S : Setting) → ProperSetting S → (d i Y x w : ℕ) (out : List ℕ) → writeShareIn S d i Y x w (length out) ≡ value tt
+    → judgeShareIn S d i (keyOf (S .group) x) Y (lentAfterShareIn S d i Y x w out) ≡ value (record { 0 = shareOf (S .group) Y x })
+
+-- and stay as they were where a number is refused
+abbrev pub LentShareKept : Type 0
+LentShareKept =
+    (S : Setting) (d i Y x w : ℕ) (out : List ℕ) (k : ℕ) → writeShareIn S d i Y x w (length out) ≡ refused k
+    → lentAfterShareIn S d i Y x w out ≡ out
+
+-- the share of Y = y^e is h^e: with e the polynomial's value it is true
+abbrev pub ShareTrue : Type 0
+ShareTrue =
+    (G : Group) → Proper G → (x e : ℕ) → 1 ≤ x → x < G .q → shareOf G (pow (G .p) (keyOf G x) e) x ≡ pow (G .p) (G .h .0) e
+
+-- ---- over a round: a value exactly if 1 and 2 refuse nothing and it is one in the round's setting; the lent bytes as there, and
+-- kept where any number is refused
+pub record ShareByRound (R : Round) : Type 0 where
+  pub accepted : (d i y Y : ℕ) (b : List ℕ) (Z : Element)
+      → (judgeShareOutcome R d i y Y b ≡ value Z) ↔ (Met (roundChecks R) × (judgeShareIn (settingIn R) d i y Y b ≡ value Z))
+  pub written : (d i Y x w room : ℕ)
+      → (writeShareOutcome R d i Y x w room ≡ value tt) ↔ (Met (roundChecks R) × (writeShareIn (settingIn R) d i Y x w room ≡ value tt))
+  pub lent : (d i Y x w : ℕ) (out : List ℕ) → Met (roundChecks R)
+      → lentAfterShare R d i Y x w out ≡ lentAfterShareIn (settingIn R) d i Y x w out
+  pub kept : (d i Y x w : ℕ) (out : List ℕ) (k : ℕ) → writeShareOutcome R d i Y x w (length out) ≡ refused k
+      → lentAfterShare R d i Y x w out ≡ out
+
+abbrev pub SharesByRound : Type 0
+SharesByRound = (R : Round) → ShareByRound R

@@ -1,0 +1,184 @@
+// The judging of an opened share (a decrypted share).
+ghost use mathlib.Core.Path.{_≡_};
+ghost use mathlib.Core.Bool.{_&&_};
+ghost use Prim.Native.Nat.{_≤_};
+ghost use lib.Dec.{eqb};
+ghost use Rattle.words.specs.Checks.{refusal};
+ghost use Rattle.group.specs.Answer.{elementOutcomeOf};
+ghost use Rattle.sharing.specs.Setting.{ProperSetting};
+ghost use Rattle.records.specs.Layout.{isShareRecord, dealerOf, memberOf};
+ghost use Rattle.challenge.specs.Message.{shareTag};
+ghost use Rattle.share.specs.Share.{shareRecomputed, shareAdmissionChecks};
+ghost use Rattle.share.specs.Share.{judgeShareFiguresIn, judgeShareIn, judgeShareOutcome};
+use crate::writer::are_members;
+use challenge::SHARE_TAG;
+use challenge::ShareFigures;
+use challenge::share_challenge;
+use equality::announced;
+use group::Element;
+use group::ElementAnswer;
+use group::Exponent;
+use group::is_element;
+use group::is_exponent;
+use records::is_key;
+use records::is_roundless;
+use records::is_share_record;
+use sharing::Round;
+use sharing::Setting;
+use sharing::SettingAnswer;
+use sharing::setting_of;
+use words::Record;
+
+// Whether a record is an opened share of the member i for the dealer d.
+fn is_share_of(d: u32, i: u32, share: Record) -> bool
+    ensures { λ a. ⌜ a ≡ isShareRecord share && (eqb (dealerOf share) d && eqb (memberOf share) i) ⌝ }
+{
+    if !is_share_record(share) {
+        return false;
+    }
+    if share.w1 != d {
+        return false;
+    }
+    share.w2 == i
+}
+
+// The first number refused of all that comes before the figures: 8, 3, 6 for y or the encrypted share, and 4; 0 where none is.
+fn admission_refusal(s: Setting, d: u32, i: u32, y: Element, encrypted: Element, b: &[u8]) -> u32
+    ensures { λ r. ⌜ r ≡ refusal (shareAdmissionChecks s d i (y .0) (encrypted .0) (now (b .entry))) ⌝ }
+{
+    if !are_members(s.n, d, i) {
+        return 8;
+    }
+    if b.len() != 32 {
+        return 3;
+    }
+    if !is_key(s.group, y) {
+        return 6;
+    }
+    if !is_element(s.group, encrypted) {
+        return 6;
+    }
+    let share = words::read_record(b);
+    if !is_share_of(d, i, share) {
+        return 4;
+    }
+    if !is_roundless(share) {
+        return 4;
+    }
+    0
+}
+
+// The challenge that the figures of the record give, in a message of that tag.
+// Internal: callers ensure that the setting is proper, and a dealer and a member at most n.
+fn recomputed(
+    s: Setting,
+    tag: u8,
+    d: u32,
+    i: u32,
+    y: Element,
+    encrypted: Element,
+    share: Record,
+) -> Exponent
+    requires { ⌜ (ProperSetting s) × (d ≤ s .n) × (i ≤ s .n) ⌝ }
+    ensures { λ c. ⌜ c .0 ≡ shareRecomputed tag s d i (y .0) (encrypted .0) share ⌝ }
+{
+    let decrypted = Element(share.w3);
+    let c = Exponent(share.w4);
+    let r = Exponent(share.w5);
+    let figures = ShareFigures {
+        dealer: d,
+        member: i,
+        y,
+        encrypted,
+        decrypted,
+        a1: announced(s.group, s.group.h, y, c, r),
+        a2: announced(s.group, decrypted, encrypted, c, r),
+    };
+    share_challenge(s, tag, figures)
+}
+
+// Judges the figures of a share by their message's tag: 6, 7 and 10 as judge_share_figures.
+// Internal: callers ensure that the setting is proper, and a dealer (which may be 0) and a member at most n.
+fn judge_figures(
+    s: Setting,
+    tag: u8,
+    d: u32,
+    i: u32,
+    y: Element,
+    encrypted: Element,
+    share: Record,
+) -> ElementAnswer
+    requires { ⌜ (ProperSetting s) × (d ≤ s .n) × (i ≤ s .n) ⌝ }
+    ensures { λ a. ⌜ elementOutcomeOf a ≡ judgeShareFiguresIn tag s d i (y .0) (encrypted .0) share ⌝ }
+{
+    if !is_element(s.group, Element(share.w3)) {
+        return ElementAnswer::Refused(6);
+    }
+    if !is_exponent(s.group, Exponent(share.w4)) {
+        return ElementAnswer::Refused(7);
+    }
+    if !is_exponent(s.group, Exponent(share.w5)) {
+        return ElementAnswer::Refused(7);
+    }
+    if share.w4 != recomputed(s, tag, d, i, y, encrypted, share).0 {
+        return ElementAnswer::Refused(10);
+    }
+    ElementAnswer::Value(Element(share.w3))
+}
+
+// Judges the figures of an opened share alone: an accepted one answers the decrypted share. Refused: 6 it is no element;
+// 7 c or r is not below q; 10 c is not the recomputed one.
+// Internal: callers ensure that the setting is proper, and a dealer and a member at most n; and where it is to be the whole
+// judgement, all that admission_refusal tests.
+pub fn judge_share_figures(
+    s: Setting,
+    d: u32,
+    i: u32,
+    y: Element,
+    encrypted: Element,
+    share: Record,
+) -> ElementAnswer
+    requires { ⌜ (ProperSetting s) × (d ≤ s .n) × (i ≤ s .n) ⌝ }
+    ensures { λ a. ⌜ elementOutcomeOf a ≡ judgeShareFiguresIn shareTag s d i (y .0) (encrypted .0) share ⌝ }
+{
+    judge_figures(s, SHARE_TAG, d, i, y, encrypted, share)
+}
+
+// The judging in a setting: 8, 3, 6, 4, 6, 7 and 10 as judge_share. Internal: callers ensure that the setting is proper.
+pub fn judge_share_in(
+    s: Setting,
+    d: u32,
+    i: u32,
+    y: Element,
+    encrypted: Element,
+    b: &[u8],
+) -> ElementAnswer
+    requires { ⌜ ProperSetting s ⌝ }
+    ensures { λ a. ⌜ elementOutcomeOf a ≡ judgeShareIn s d i (y .0) (encrypted .0) (now (b .entry)) ⌝ }
+{
+    let k = admission_refusal(s, d, i, y, encrypted, b);
+    if k != 0 {
+        return ElementAnswer::Refused(k);
+    }
+    judge_share_figures(s, d, i, y, encrypted, words::read_record(b))
+}
+
+// Judges the record b of an opened share of the member i for the dealer d, with the key y of the member and the encrypted share
+// of his line: an accepted one answers the decrypted share. Refused: 1 and 2 as setting_of; 8 d or i is no member; 3 not 32
+// bytes; 6 y or the encrypted share is no element, or y is 1; 4 no record of an opened share of i for d; 6 the decrypted share
+// is no element; 7 c or r is not below q; 10 c is not the recomputed one.
+pub fn judge_share(
+    rd: Round,
+    d: u32,
+    i: u32,
+    y: Element,
+    encrypted: Element,
+    b: &[u8],
+) -> ElementAnswer
+    ensures { λ a. ⌜ elementOutcomeOf a ≡ judgeShareOutcome rd d i (y .0) (encrypted .0) (now (b .entry)) ⌝ }
+{
+    match setting_of(rd) {
+        SettingAnswer::Refused(k) => ElementAnswer::Refused(k),
+        SettingAnswer::Value(s) => judge_share_in(s, d, i, y, encrypted, b),
+    }
+}

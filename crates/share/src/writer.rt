@@ -1,0 +1,136 @@
+// The writing of an opened share (a decrypted share).
+ghost use mathlib.Core.Path.{_≡_};
+ghost use mathlib.Core.Bool.{_&&_};
+ghost use Prim.Native.Nat.{_<_, _≤_};
+ghost use lib.ListN.{length};
+ghost use Rattle.words.specs.Checks.{refusal};
+ghost use Rattle.sharing.specs.Setting.{ProperSetting, isMember};
+ghost use Rattle.sharing.specs.Answer.{checkOutcomeOf};
+ghost use Rattle.share.specs.Share.{writtenShare, writeShareChecks, writeShareIn, writeShareOutcome};
+ghost use Rattle.share.specs.Share.{lentAfterShareIn, lentAfterShare};
+use challenge::SHARE_TAG;
+use challenge::ShareFigures;
+use challenge::share_challenge;
+use equality::response;
+use group::Element;
+use group::Exponent;
+use group::is_element;
+use group::is_exponent;
+use records::is_secret_key;
+use records::share_record;
+use sharing::CheckAnswer;
+use sharing::Round;
+use sharing::Setting;
+use sharing::SettingAnswer;
+use sharing::is_member;
+use sharing::setting_of;
+
+// Whether the dealer d and the member i are members.
+pub(crate) fn are_members(n: u32, d: u32, i: u32) -> bool
+    ensures { λ r. ⌜ r ≡ isMember n d && isMember n i ⌝ }
+{
+    is_member(n, d) && is_member(n, i)
+}
+
+// The first number refused in a setting, 0 where nothing is.
+fn write_refusal(
+    s: Setting,
+    d: u32,
+    i: u32,
+    encrypted: Element,
+    x: Exponent,
+    w: Exponent,
+    room: usize,
+) -> u32
+    ensures { λ r. ⌜ r ≡ refusal (writeShareChecks s d i (encrypted .0) (x .0) (w .0) room) ⌝ }
+{
+    if !are_members(s.n, d, i) {
+        return 8;
+    }
+    if room != 32 {
+        return 3;
+    }
+    if !is_element(s.group, encrypted) {
+        return 6;
+    }
+    if !is_secret_key(s.group, x) {
+        return 7;
+    }
+    if !is_exponent(s.group, w) {
+        return 7;
+    }
+    0
+}
+
+// Writes the opened share that the secret key x gives of the encrypted share, with the nonce w.
+// Internal: callers ensure that the setting is proper, a dealer and a member at most n, a secret key, a nonce below q, and 32 bytes.
+fn put_share(
+    s: Setting,
+    d: u32,
+    i: u32,
+    encrypted: Element,
+    x: Exponent,
+    w: Exponent,
+    out: &mut [u8],
+)
+    requires { ⌜ (ProperSetting s) × (d ≤ s .n) × (i ≤ s .n)
+        × (0 < x .0) × (x .0 < s .group .q) × (w .0 < s .group .q) × (length (now out) ≡ 32) ⌝ }
+    ensures { λ _. ⌜ now (out .exit) ≡ writtenShare s d i (encrypted .0) (x .0) (w .0) ⌝ }
+{
+    let decrypted = encrypted.power(s.group, x.inverse(s.group));
+    let figures = ShareFigures {
+        dealer: d,
+        member: i,
+        y: s.group.h.power(s.group, x),
+        encrypted,
+        decrypted,
+        a1: s.group.h.power(s.group, w),
+        a2: decrypted.power(s.group, w),
+    };
+    let c = share_challenge(s, SHARE_TAG, figures);
+    let r = response(s.group, w, c, x);
+    words::write_record(out, share_record(d, i, decrypted, c, r));
+}
+
+// The writing in a setting: 8, 3, 6 and 7 as write_share. Internal: callers ensure that the setting is proper.
+pub fn write_share_in(
+    s: Setting,
+    d: u32,
+    i: u32,
+    encrypted: Element,
+    x: Exponent,
+    w: Exponent,
+    out: &mut [u8],
+) -> CheckAnswer
+    requires { ⌜ ProperSetting s ⌝ }
+    ensures { λ r. ⌜ checkOutcomeOf r ≡ writeShareIn s d i (encrypted .0) (x .0) (w .0) (length (now (out .entry))) ⌝ }
+    ensures { λ r. ⌜ now (out .exit) ≡ lentAfterShareIn s d i (encrypted .0) (x .0) (w .0) (now (out .entry)) ⌝ }
+{
+    let k = write_refusal(s, d, i, encrypted, x, w, out.len());
+    if k != 0 {
+        return CheckAnswer::Refused(k);
+    }
+    put_share(s, d, i, encrypted, x, w, out);
+    CheckAnswer::Passed
+}
+
+// Writes the opened share of the member i for the dealer d, from the encrypted share, the secret key x and the nonce w.
+// Refused, with no lent byte changed: 1 and 2 as setting_of; 8 d or i is no member; 3 not 32 bytes; 6 the encrypted share is no
+// element; 7 x is 0 or not below q, or w is not below q.
+pub fn write_share(
+    rd: Round,
+    d: u32,
+    i: u32,
+    encrypted: Element,
+    x: Exponent,
+    w: Exponent,
+    out: &mut [u8],
+) -> CheckAnswer
+    ensures { λ r. ⌜ checkOutcomeOf r ≡ writeShareOutcome rd d i (encrypted .0) (x .0) (w .0) (length (now (out .entry))) ⌝ }
+    ensures { λ r. ⌜ now (out .exit) ≡ lentAfterShare rd d i (encrypted .0) (x .0) (w .0) (now (out .entry)) ⌝ }
+{
+    match setting_of(rd) {
+        SettingAnswer::Refused(k) => CheckAnswer::Refused(k),
+        SettingAnswer::Value(s) => write_share_in(s, d, i, encrypted, x, w, out),
+    }
+}

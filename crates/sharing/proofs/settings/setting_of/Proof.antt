@@ -1,0 +1,49 @@
+-- `settings::setting_of` meets its contract: the look-up tells the group or that there is none, and then the range decides.
+use borrow.Author.Needs.{needs}
+use Rattle.words.proofs.Tests.{passed, failed}
+use Rattle.group.proofs.Answers.{group-value, group-refused}
+use Rattle.sharing.specs.Setting.{roundChecks, settingOutcome}
+use Rattle.sharing.proofs.settings.setting_of.Statement.{statement}
+use Rattle.sharing.proofs.settings.setting_of.Tie as tie
+
+group-of-requires : tie.Need-group-of-requires
+group-of-requires c κs = search needs
+
+enum-known-gr : tie.Need-enum-known-gr
+enum-known-gr c = search needs
+
+enum-told : tie.Need-enum-told
+enum-told c = search needs
+
+returns : tie.Need-returns
+unfolding settingOutcome roundChecks
+returns c = simp (group-refused _ (c .before .before .group-of .ensures) (c .enum-told .given .1))
+
+in-range-requires : tie.Need-in-range-requires
+in-range-requires c κs = search needs
+
+returns-2 : tie.Need-returns-2
+unfolding settingOutcome roundChecks
+returns-2 c =
+    let d = c .before .before .before in
+    let g = group-value _ (d .before .before .group-of .ensures) (d .gr .given .1) in
+    simp (g .0, g .1, failed (c .before .in-range .ensures) (c .if1 .taken))
+
+returns-3 : tie.Need-returns-3
+unfolding settingOutcome roundChecks
+returns-3 c =
+    let d = c .before .before .before in
+    let g = group-value _ (d .before .before .group-of .ensures) (d .gr .given .1) in
+    simp (g .0, g .1, passed (c .before .in-range .ensures) (c .if1 .left))
+
+pub setting-of-spec : {M : Type 1} → statement M
+setting-of-spec =
+    tie.close
+    (tie.spec
+    group-of-requires
+    enum-known-gr
+    enum-told
+    returns
+    in-range-requires
+    returns-2
+    returns-3)

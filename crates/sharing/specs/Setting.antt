@@ -1,0 +1,62 @@
+-- A round's figures as they are lent, the checks by which every operation begins, and the setting that they leave.
+use mathlib.Core.Bool.{Bool, _&&_}
+use mathlib.Core.List.{List, [], _∷_, _++_}
+use Prim.Native.Nat.{ℕ, _^_, _≤_, _<_}
+use lib.Dec.{leb, ltb}
+use Rattle.words.specs.Lists.{upFrom}
+use Rattle.words.specs.Checks.{Check, _unless_, Outcome, value, refused, outcome, ifMet}
+use Rattle.group.specs.Table.{isGroup, groupOf}
+use Rattle.group.specs.Element.{Proper}
+use Rattle.sharing.specs.declared.Round.{Round}
+use Rattle.sharing.specs.declared.Setting.{Setting}
+use Rattle.sharing.specs.declared.SettingAnswer.{SettingAnswer}
+use Rattle.sharing.specs.declared.SettingAnswer.the-variants.{Value, Refused}
+
+-- all that is asked of a setting: a proper group whose figures fit a word, a number that fits a byte, n from 1 to 31 and below q,
+-- t from 1 to n
+pub record ProperSetting (S : Setting) : Type 0 where
+  pub proper : Proper (S .group)
+  pub p-word : S .group .p < 2 ^ 32
+  pub q-word : S .group .q < 2 ^ 32
+  pub number-byte : S .number < 256
+  pub n-positive : 1 ≤ S .n
+  pub n-most : S .n ≤ 31
+  pub n-below : S .n < S .group .q
+  pub t-positive : 1 ≤ S .t
+  pub t-most : S .t ≤ S .n
+
+-- ---- from a round
+abbrev pub settingIn : Round → Setting
+settingIn R = record { group = groupOf (R .group); number = R .group; n = R .n; t = R .t }
+
+-- n from 1 to 31 and below q, t from 1 to n
+unfoldable pub inRange : ℕ → ℕ → ℕ → Bool
+inRange q n t = leb 1 n && (leb n 31 && (ltb n q && (leb 1 t && leb t n)))
+
+unfoldable pub roundChecks : Round → List Check
+roundChecks R = 1 unless isGroup (R .group) ∷ 2 unless inRange (groupOf (R .group) .q) (R .n) (R .t) ∷ []
+
+abbrev pub settingOutcomeOf : SettingAnswer → Outcome Setting
+settingOutcomeOf (Value S) = value S
+settingOutcomeOf (Refused k) = refused k
+
+unfoldable pub settingOutcome : Round → Outcome Setting
+settingOutcome R = outcome (roundChecks R) (settingIn R)
+
+-- ---- what an operation does over a round: the round's checks come first, then those of its setting
+-- its answer
+unfoldable pub judged : {A : Type 0} → Round → (Setting → List Check) → (Setting → A) → Outcome A
+judged R checks answer = outcome (roundChecks R ++ checks (settingIn R)) (answer (settingIn R))
+
+-- a lent buffer afterwards
+unfoldable pub judgedElse : {A : Type 0} → Round → (Setting → List Check) → (Setting → A) → A → A
+judgedElse R checks new old = ifMet (roundChecks R ++ checks (settingIn R)) (new (settingIn R)) old
+
+-- ---- members
+-- a member's number is from 1 to n
+unfoldable pub isMember : ℕ → ℕ → Bool
+isMember n i = leb 1 i && leb i n
+
+-- the members 1 to n
+abbrev pub members : ℕ → List ℕ
+members n = upFrom 1 n

@@ -1,0 +1,45 @@
+// The setting of a round, by whose checks every operation begins.
+ghost use mathlib.Core.Path.{_≡_};
+ghost use Rattle.sharing.specs.Setting.{inRange, settingOutcomeOf, settingOutcome};
+use crate::Round;
+use crate::Setting;
+use crate::SettingAnswer;
+use group::GroupAnswer;
+use group::group_of;
+
+// n from 1 to 31 and below q, t from 1 to n
+fn in_range(q: u32, n: u32, t: u32) -> bool
+    ensures { λ r. ⌜ r ≡ inRange q n t ⌝ }
+{
+    if n < 1 {
+        return false;
+    }
+    if n > 31 {
+        return false;
+    }
+    if n >= q {
+        return false;
+    }
+    if t < 1 {
+        return false;
+    }
+    t <= n
+}
+
+// The setting of a round: nothing else looks its group up. Refused: 1 no group of that number; 2 n or t outside its range.
+pub fn setting_of(rd: Round) -> SettingAnswer
+    ensures { λ r. ⌜ settingOutcomeOf r ≡ settingOutcome rd ⌝ }
+{
+    let GroupAnswer::Value(gr) = group_of(rd.group) else {
+        return SettingAnswer::Refused(1);
+    };
+    if !in_range(gr.q, rd.n, rd.t) {
+        return SettingAnswer::Refused(2);
+    }
+    SettingAnswer::Value(Setting {
+        group: gr,
+        number: rd.group,
+        n: rd.n,
+        t: rd.t,
+    })
+}
