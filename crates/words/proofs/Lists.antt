@@ -117,20 +117,6 @@ up-at i zero k h = absurd (not-suc-le-zero h)
 up-at i (suc n) zero h = omega arith
 up-at i (suc n) (suc k) h = up-at (suc i) n k (le-of-suc-le-suc h) ∙ omega arith
 
-pub up-drop : (i n k : ℕ) → k ≤ n → drop k (upFrom i n) ≡ upFrom (i + k) (n - k)
-up-drop i n zero h = λ j. upFrom (start j) (rest j)
-  where
-    start : i ≡ i + 0
-    start = omega arith
-
-    rest : n ≡ n - 0
-    rest = omega arith
-up-drop i zero (suc k) h = absurd (not-suc-le-zero h)
-up-drop i (suc n) (suc k) h =
-    let e : suc i + k ≡ i + suc k = omega arith in
-    let r : n - k ≡ suc n - suc k = omega arith in
-    up-drop (suc i) n k (le-of-suc-le-suc h) ∙ (λ j. upFrom (e j) (r j))
-
 -- by its last
 pub up-last : (i n : ℕ) → upFrom i (n + 1) ≡ upFrom i n ++ ((i + n) ∷ [])
 up-last i n = ap (upFrom i) (add-one n) ∙ last i n
