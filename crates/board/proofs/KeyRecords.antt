@@ -8,7 +8,7 @@ use Rattle.records.specs.Layout.{keyKind, recordAt}
 use Rattle.records.specs.Keys.{isKey, keyChecks}
 use Rattle.records.proofs.Members.{members-exactly}
 use Rattle.board.specs.Search.{recordsIn}
-use Rattle.board.specs.Board.{keyRecord, hasKey, keyIn}
+use Rattle.board.specs.Board.{keyPlace, hasKey, keyIn}
 use Rattle.board.specs.Claims.{KeysExact}
 use Rattle.board.proofs.Order.{reached, shapes, sorted}
 use Rattle.board.proofs.Places.{at-true, true-at, record-is, only-record}
@@ -17,8 +17,8 @@ pub keys-exact : KeysExact
 unfolding keyChecks
 keys-exact S b c m h l =
     let r = reached S b c in
-    let inside = ltb-true (keyRecord b m) (recordsIn b) (members-exactly (hasKey b) (S .n) .0 (r .keys) m h l) in
-    let k = at-true (recordAt b (keyRecord b m)) keyKind 0 m (record-is b keyKind 0 m .here (omega arith)) in
+    let inside = ltb-true (keyPlace b m) (recordsIn b) (members-exactly (hasKey b) (S .n) .0 (r .keys) m h l) in
+    let k = at-true (recordAt b (keyPlace b m)) keyKind 0 m (record-is b keyKind 0 m .here (omega arith)) in
     record {
       inside = inside;
       kind = k .0;

@@ -22,7 +22,7 @@ use Rattle.records.specs.Layout.{agrees, isKeyRecord, isLineRecord, isOpeningRe
 use Rattle.records.specs.Keys.{keyChecks}
 use Rattle.records.proofs.Members.{member-exactly}
 use Rattle.board.specs.Search.{recordsIn}
-use Rattle.board.specs.Board.{isShaped, isBelow, isAbove, recordChecks, formChecks, Sorted, hasKey, keysIn, boardKeyChecks, boardChecks}
+use Rattle.board.specs.Board.{isShaped, isBelow, isAbove, inOrder, oneRecordChecks, recordChecks, formChecks, Sorted, hasKey, keysIn, boardKeyChecks, boardChecks}
 
 -- ---- the checks before verdicts, taken apart
 pub record Reached (S : Setting) (b : List ℕ) : Type 0 where
@@ -147,38 +147,43 @@ members-rise {b} S i j h l =
     below-member (recordAt b i) (s .w0) (s .w1) (s .w2) (below-true (recordAt b i) (s .w0) (s .w1) (s .w2) (S .ascends i j h l))
 
 -- ---- every record
-module _ (n : ℕ) (b : List ℕ) where
-  abbrev Next : ℕ → Type 0
-  Next x =
-      (isShaped n (recordAt b x) ≡ true) × (isRoundless (recordAt b x) ≡ true)
-      × (pick (eqb x 0) true (isAbove (recordAt b (x - 1)) (recordAt b x)) ≡ true)
+-- what its checks settle of the record i
+record InForm (n : ℕ) (b : List ℕ) (i : ℕ) : Type 0 where
+  shaped : isShaped n (recordAt b i) ≡ true
+  roundless : isRoundless (recordAt b i) ≡ true
+  ordered : inOrder b i ≡ true
 
-  records-met : (i m : ℕ) → Met (recordChecks n b i m) → (x : ℕ) → i ≤ x → x < i + m → Next x
+module _ (n : ℕ) (b : List ℕ) where
+  record-met : (i : ℕ) → Met (oneRecordChecks n b i) → InForm n b i
+  record-met i h = record { shaped = h .0; roundless = h .1 .0; ordered = h .1 .1 .0 }
+
+  records-met : (i m : ℕ) → Met (recordChecks n b i m) → (x : ℕ) → i ≤ x → x < i + m → InForm n b x
   records-met i zero h x l u = absurd (omega arith)
   records-met i (suc m) h x l u =
-      ⊎-elim (λ w. subst Next w (h .0, h .1 .0, h .1 .1 .0)) (λ w. records-met (suc i) m (h .1 .1 .1) x w (omega arith)) (eq-or-lt-of-le l)
+      let s = met-both (oneRecordChecks n b i) (recordChecks n b (suc i) m) h in
+      ⊎-elim (λ w. subst (InForm n b) w (record-met i (s .0))) (λ w. records-met (suc i) m (s .1) x w (omega arith)) (eq-or-lt-of-le l)
 
   module _ (form : Met (formChecks n b)) where
-    each-next : (i : ℕ) → i < recordsIn b → Next i
+    each : (i : ℕ) → i < recordsIn b → InForm n b i
     unfolding formChecks
-    each-next i h = records-met 0 (recordsIn b) (form .1) i (omega arith) (omega arith)
+    each i h = records-met 0 (recordsIn b) (form .1) i (omega arith) (omega arith)
 
     pub few-records : recordsIn b ≤ 2048
     unfolding formChecks
     few-records = leb-true _ _ (and-true (eqb (length b % 32) 0) _ (form .0) .1)
 
     pub shapes : (i : ℕ) → i < recordsIn b → Shaped n (recordAt b i)
-    shapes i h = shaped-true n (recordAt b i) (each-next i h .0)
+    shapes i h = shaped-true n (recordAt b i) (each i h .shaped)
 
     pub roundless : (i : ℕ) → i < recordsIn b → isRoundless (recordAt b i) ≡ true
-    roundless i h = each-next i h .1
+    roundless i h = each i h .roundless
 
     next-above : (i : ℕ) → suc i < recordsIn b → isAbove (recordAt b i) (recordAt b (suc i)) ≡ true
     next-above i h =
         let p : i ≡ suc i - 1 = omega arith in
         ap (λ (j : ℕ). isAbove (recordAt b j) (recordAt b (suc i))) p
         ∙ sym (pick-false (eqb (suc i) 0) true _ (ne-eqb (suc i) 0 (λ e. omega arith)))
-        ∙ each-next (suc i) h .2
+        ∙ each (suc i) h .ordered
 
     above : (i j : ℕ) → i < j → j < recordsIn b → isAbove (recordAt b i) (recordAt b j) ≡ true
     above i zero h l = absurd (not-suc-le-zero h)

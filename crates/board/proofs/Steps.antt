@@ -11,7 +11,7 @@ use Rattle.words.specs.Checks.{refusal}
 use Rattle.words.specs.declared.Record.{Record}
 use Rattle.words.proofs.Tests.{pick-true, pick-false}
 use Rattle.records.specs.Layout.{isRoundless, recordAt}
-use Rattle.board.specs.Board.{isShaped, isAbove, recordChecks}
+use Rattle.board.specs.Board.{isShaped, isAbove, inOrder, recordChecks}
 
 -- ---- counting up to n
 one-less : (n i : ℕ) → i < n → n - i ≡ suc (n - (i + 1))
@@ -24,10 +24,6 @@ one-more : (i : ℕ) → suc i ≡ i + 1
 one-more i = omega arith
 
 -- ---- form and order
--- the record i is the first or above the one before
-abbrev pub inOrder : List ℕ → ℕ → Bool
-inOrder b i = pick (eqb i 0) true (isAbove (recordAt b (i - 1)) (recordAt b i))
-
 -- the tests of the record r that was read at i, with that of the one before
 module _ (b : List ℕ) (i : ℕ) {r : Record} (e : r ≡ recordAt b i) where
   pub test-found : (test : Record → Bool) {s t : Bool} → s ≡ test r → s ≡ t → test (recordAt b i) ≡ t

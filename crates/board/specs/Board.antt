@@ -34,14 +34,22 @@ isBelow r k d m = pick (eqb (r .w0) k) (pick (eqb (dealerOf r) d) (ltb (memberOf
 abbrev pub isAbove : Record → Record → Bool
 isAbove r s = isBelow r (s .w0) (dealerOf s) (memberOf s)
 
--- record by record, for m records from the record i on: 4 a shape that is none of the table's, or a last word, and then 5
-abbrev pub recordChecks : ℕ → List ℕ → ℕ → ℕ → List Check
-recordChecks n b i zero = []
-recordChecks n b i (suc m) =
+-- the record i is the first or above the one before
+abbrev pub inOrder : List ℕ → ℕ → Bool
+inOrder b i = pick (eqb i 0) true (isAbove (recordAt b (i - 1)) (recordAt b i))
+
+-- the record i: 4 a shape that is none of the table's, or a last word, and then 5
+abbrev pub oneRecordChecks : ℕ → List ℕ → ℕ → List Check
+oneRecordChecks n b i =
     4 unless isShaped n (recordAt b i)
     ∷ 4 unless isRoundless (recordAt b i)
-    ∷ 5 unless pick (eqb i 0) true (isAbove (recordAt b (i - 1)) (recordAt b i))
-    ∷ recordChecks n b (suc i) m
+    ∷ 5 unless inOrder b i
+    ∷ []
+
+-- record by record, for m records from the record i on
+abbrev pub recordChecks : ℕ → List ℕ → ℕ → ℕ → List Check
+recordChecks n b i zero = []
+recordChecks n b i (suc m) = oneRecordChecks n b i ++ recordChecks n b (suc i) m
 
 -- whole records, at most 2,048, each in form and above the one before
 unfoldable pub formChecks : ℕ → List ℕ → List Check
@@ -60,21 +68,21 @@ placeOf b k d m = first (λ i. not (isBelow (recordAt b i) k d m)) 0 (recordsIn 
 unfoldable pub isAt : Record → ℕ → ℕ → ℕ → Bool
 isAt r k d m = eqb (r .w0) k && (eqb (dealerOf r) d && eqb (memberOf r) m)
 
--- the record with this address, the number of records where there is none
+-- where the record with this address stands, the number of records where there is none
 unfoldable pub recordBy : List ℕ → ℕ → ℕ → ℕ → ℕ
 recordBy b k d m = first (λ i. isAt (recordAt b i) k d m) 0 (recordsIn b)
 
 -- ---- keys
--- the record of the key of member m
-abbrev pub keyRecord : List ℕ → ℕ → ℕ
-keyRecord b m = recordBy b keyKind 0 m
+-- where the key record of member m stands, the number of records where there is none
+abbrev pub keyPlace : List ℕ → ℕ → ℕ
+keyPlace b m = recordBy b keyKind 0 m
 
 -- member m has one
 abbrev pub hasKey : List ℕ → ℕ → Bool
-hasKey b m = ltb (keyRecord b m) (recordsIn b)
+hasKey b m = ltb (keyPlace b m) (recordsIn b)
 
 unfoldable pub keyIn : List ℕ → ℕ → ℕ
-keyIn b m = yOf (recordAt b (keyRecord b m))
+keyIn b m = yOf (recordAt b (keyPlace b m))
 
 abbrev pub keysIn : ℕ → List ℕ → List ℕ
 keysIn n b = map (keyIn b) (members n)
@@ -122,6 +130,6 @@ linesAt R d b = judgedElse R (λ S. linesChecks S d b) (λ S. 32 * linesStart b 
 abbrev pub behind : ℕ → ℕ × ℕ → ℕ × ℕ
 behind k p = (p .0, k + p .1)
 
--- ---- a dealer's opening
-abbrev pub openingRecord : List ℕ → ℕ → ℕ
-openingRecord b d = recordBy b openingKind d 0
+-- ---- a dealer's opening: where its record stands, the number of records where there is none
+abbrev pub openingPlace : List ℕ → ℕ → ℕ
+openingPlace b d = recordBy b openingKind d 0

@@ -10,15 +10,15 @@ use Rattle.sharing.specs.declared.Setting.{Setting}
 use Rattle.records.specs.Layout.{keyKind, lineKind, dealerOf, memberOf, recordAt, recordOf}
 use Rattle.records.specs.Keys.{isKey}
 use Rattle.board.specs.Search.{recordsIn}
-use Rattle.board.specs.Board.{formChecks, boardChecks, keyRecord, keyIn, linesStart, linesEnd, lineCount, linesOf}
+use Rattle.board.specs.Board.{formChecks, boardChecks, keyPlace, keyIn, linesStart, linesEnd, lineCount, linesOf}
 
 -- ---- keys
--- the record that keyRecord finds is the one key record of member m, and holds a proper key
+-- the record at keyPlace is the one key record of member m, and holds a proper key
 pub record ExactKey (S : Setting) (b : List ℕ) (m : ℕ) : Type 0 where
-  pub inside : keyRecord b m < recordsIn b
-  pub kind : recordAt b (keyRecord b m) .w0 ≡ keyKind
-  pub member : memberOf (recordAt b (keyRecord b m)) ≡ m
-  pub only : (i : ℕ) → i < recordsIn b → recordAt b i .w0 ≡ keyKind → memberOf (recordAt b i) ≡ m → i ≡ keyRecord b m
+  pub inside : keyPlace b m < recordsIn b
+  pub kind : recordAt b (keyPlace b m) .w0 ≡ keyKind
+  pub member : memberOf (recordAt b (keyPlace b m)) ≡ m
+  pub only : (i : ℕ) → i < recordsIn b → recordAt b i .w0 ≡ keyKind → memberOf (recordAt b i) ≡ m → i ≡ keyPlace b m
   pub proper : isKey (S .group) (keyIn b m) ≡ true
 
 abbrev pub KeysExact : Type 0

@@ -1,7 +1,7 @@
 // Searches over the records of a board that ascend: places are found by bisection.
 ghost use mathlib.Core.Path.{_≡_};
 ghost use Rattle.board.specs.Search.{recordsIn};
-ghost use Rattle.board.specs.Board.{Sorted, placeOf, isAt, recordBy, keyRecord, openingRecord};
+ghost use Rattle.board.specs.Board.{Sorted, placeOf, isAt, recordBy, keyPlace, openingPlace};
 use crate::form::is_below;
 use records::KEY;
 use records::OPENING;
@@ -47,7 +47,7 @@ fn is_at(r: Record, k: u32, d: u32, m: u32) -> bool
     r.w2 == m
 }
 
-// The record with the address of kind k, dealer d and member m, the number of records where there is none.
+// Where the record with the address of kind k, dealer d and member m stands, the number of records where there is none.
 // Internal: callers ensure that the records ascend.
 fn record_by(b: &[u8], k: u32, d: u32, m: u32) -> usize
     requires { ⌜ Sorted (now b) ⌝ }
@@ -64,20 +64,20 @@ fn record_by(b: &[u8], k: u32, d: u32, m: u32) -> usize
     at
 }
 
-// The record of the key of member m, the number of records where there is none.
+// Where the key record of member m stands, the number of records where there is none.
 // Internal: callers ensure that the records ascend.
 pub fn find_key(b: &[u8], m: u32) -> usize
     requires { ⌜ Sorted (now b) ⌝ }
-    ensures { λ r. ⌜ r ≡ keyRecord (now (b .entry)) m ⌝ }
+    ensures { λ r. ⌜ r ≡ keyPlace (now (b .entry)) m ⌝ }
 {
     record_by(b, KEY, 0, m)
 }
 
-// The record of the opening of dealer d, the number of records where there is none.
+// Where the opening of dealer d stands, the number of records where there is none.
 // Internal: callers ensure that the records ascend.
 pub fn find_opening(b: &[u8], d: u32) -> usize
     requires { ⌜ Sorted (now b) ⌝ }
-    ensures { λ r. ⌜ r ≡ openingRecord (now (b .entry)) d ⌝ }
+    ensures { λ r. ⌜ r ≡ openingPlace (now (b .entry)) d ⌝ }
 {
     record_by(b, OPENING, d, 0)
 }

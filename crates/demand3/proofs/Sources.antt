@@ -18,7 +18,7 @@ use Rattle.sharing.specs.Answer.{openingIn}
 use Rattle.sharing.specs.declared.Setting.{Setting}
 use Rattle.records.specs.Layout.{openingKind, memberOf, uOf, recordAt}
 use Rattle.board.specs.Search.{Ascending, recordsIn}
-use Rattle.board.specs.Board.{openingRecord}
+use Rattle.board.specs.Board.{openingPlace}
 use Rattle.board.proofs.Searches.{filter-ascending}
 use Rattle.board.proofs.Order.{Reached, shapes, sorted, members-rise}
 use Rattle.board.proofs.Places.{at-true, true-at, record-is, only-record}
@@ -39,7 +39,7 @@ shares-ascend J {S} {b} F d =
 
 -- ---- the opening
 module _ {S : Setting} {b : List ℕ} (F : Reached S b) (d : ℕ) where
-  only-opening : (o : RightlyOpened S b d) → o .at ≡ openingRecord b d
+  only-opening : (o : RightlyOpened S b d) → o .at ≡ openingPlace b d
   only-opening o =
       only-record (sorted (S .n) b (F .form)) openingKind d 0 (o .at) (o .inside)
       (true-at (recordAt b (o .at)) openingKind d 0 (o .kind) (o .dealer) (shapes (S .n) b (F .form) (o .at) (o .inside) .opening (o .kind)))
@@ -47,16 +47,16 @@ module _ {S : Setting} {b : List ℕ} (F : Reached S b) (d : ℕ) where
   opened-right : isOpened S b d ≡ true → RightlyOpened S b d
   unfolding isOpened
   opened-right e =
-      let s = and-true (ltb (openingRecord b d) (recordsIn b)) _ e in
-      let h = ltb-true (openingRecord b d) (recordsIn b) (s .0) in
-      let k = at-true (recordAt b (openingRecord b d)) openingKind d 0 (record-is b openingKind d 0 .here (omega arith)) in
-      record { at = openingRecord b d; inside = h; kind = k .0; dealer = k .1; right = is-value _ (s .1) .1 }
+      let s = and-true (ltb (openingPlace b d) (recordsIn b)) _ e in
+      let h = ltb-true (openingPlace b d) (recordsIn b) (s .0) in
+      let k = at-true (recordAt b (openingPlace b d)) openingKind d 0 (record-is b openingKind d 0 .here (omega arith)) in
+      record { at = openingPlace b d; inside = h; kind = k .0; dealer = k .1; right = is-value _ (s .1) .1 }
 
   right-opened : RightlyOpened S b d → isOpened S b d ≡ true
   unfolding isOpened
   right-opened o =
       let e = only-opening o in
-      true-and (ltb (openingRecord b d) (recordsIn b)) _ (lt-ltb (openingRecord b d) (recordsIn b) (omega (arith, o .inside)))
+      true-and (ltb (openingPlace b d) (recordsIn b)) _ (lt-ltb (openingPlace b d) (recordsIn b) (omega (arith, o .inside)))
       (ap (λ (i : ℕ). isValue (openingIn S (commitmentsOf S b d) (uOf (recordAt b i)))) (sym e) ∙ ap isValue (o .right))
 
 -- ---- the three sources of a secret

@@ -22,7 +22,7 @@ use Rattle.records.specs.Layout.{memberOf, uOf, ZOf, recordAt}
 use Rattle.dealing.specs.Dealing.{vsIn}
 use Rattle.dealing.proofs.Judged.{accepted-passes}
 use Rattle.board.specs.Search.{filter, recordsIn}
-use Rattle.board.specs.Board.{keysIn, linesOf, openingRecord}
+use Rattle.board.specs.Board.{keysIn, linesOf, openingPlace}
 use Rattle.board.proofs.Searches.{filter-up}
 use Rattle.board.proofs.Order.{reached, shapes}
 use Rattle.verdicts.specs.Verdict.{Judges, LinesOn, commitmentsOf, isShareBy, sharesBy, fromShares, isOpened, secretBy}
@@ -105,17 +105,17 @@ opening-decided S vs u C = simp (eq-eqb (length vs) (S .n) (C .size), C .element
 
 module _ (S : Setting) (b : List ℕ) (d : ℕ) where
   abbrev opening : ℕ
-  opening = uOf (recordAt b (openingRecord b d))
+  opening = uOf (recordAt b (openingPlace b d))
 
-  pub opened-none : recordsIn b ≤ openingRecord b d → false ≡ isOpened S b d
+  pub opened-none : recordsIn b ≤ openingPlace b d → false ≡ isOpened S b d
   unfolding isOpened
-  opened-none h = sym (ap (λ (t : Bool). t && isValue (openingIn S (commitmentsOf S b d) opening)) (le-ltb (openingRecord b d) (recordsIn b) h))
+  opened-none h = sym (ap (λ (t : Bool). t && isValue (openingIn S (commitmentsOf S b d) opening)) (le-ltb (openingPlace b d) (recordsIn b) h))
 
-  module _ {lines : List ℕ} (L : LinesOn S b d lines) (h : openingRecord b d < recordsIn b) {u : ℕ} (e : u ≡ opening) where
+  module _ {lines : List ℕ} (L : LinesOn S b d lines) (h : openingPlace b d < recordsIn b) {u : ℕ} (e : u ≡ opening) where
     told : isOpened S b d ≡ isExponent (S .group) u && isOpening S (commitmentsOf S b d) u
     unfolding isOpened
     told =
-        ap (λ (t : Bool). t && isValue (openingIn S (commitmentsOf S b d) opening)) (lt-ltb (openingRecord b d) (recordsIn b) h)
+        ap (λ (t : Bool). t && isValue (openingIn S (commitmentsOf S b d) opening)) (lt-ltb (openingPlace b d) (recordsIn b) h)
         ∙ opening-decided S (commitmentsOf S b d) opening (accepted-passes S (L .proper) d (keysIn (S .n) b) (linesOf b d) (L .accepted) .0)
         ∙ ap (λ (x : ℕ). isExponent (S .group) x && isOpening S (commitmentsOf S b d) x) (sym e)
 
@@ -127,9 +127,9 @@ module _ (S : Setting) (b : List ℕ) (d : ℕ) where
         ap (λ (l : List ℕ). isOpening S l u) (v ∙ ap (vsIn (S .n)) (L .part))
         ∙ sym (told ∙ ap (λ (t : Bool). t && isOpening S (commitmentsOf S b d) u) f)
 
-  pub opening-inside : isOpened S b d ≡ true → openingRecord b d < recordsIn b
+  pub opening-inside : isOpened S b d ≡ true → openingPlace b d < recordsIn b
   unfolding isOpened
-  opening-inside e = ltb-true _ _ (and-true (ltb (openingRecord b d) (recordsIn b)) _ e .0)
+  opening-inside e = ltb-true _ _ (and-true (ltb (openingPlace b d) (recordsIn b)) _ e .0)
 
   pub secret-shares : (J : Judges) → isOpened S b d ≡ false → fromShares J S b d ≡ secretBy J S b d
   unfolding secretBy

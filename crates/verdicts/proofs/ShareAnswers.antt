@@ -28,7 +28,7 @@ use Rattle.share.specs.Share.{judgeShareChecks, judgeShareFiguresIn, judgeShare
 use Rattle.share.specs.Claims.{AdmittedShare}
 use Rattle.share.proofs.Shares.{figures-decide}
 use Rattle.board.specs.Search.{filter, recordsIn}
-use Rattle.board.specs.Board.{formChecks, Sorted, placeOf, keyRecord, keyIn, keysIn, linesOf}
+use Rattle.board.specs.Board.{formChecks, Sorted, placeOf, keyPlace, keyIn, keysIn, linesOf}
 use Rattle.board.proofs.Searches.{filter-run}
 use Rattle.board.proofs.Order.{reached, shapes, roundless, sorted}
 use Rattle.board.proofs.Places.{place-within, run-rises, in-run, to-run}
@@ -127,7 +127,7 @@ module _ {S : Setting} {b : List ℕ} {d : ℕ} {lines : List ℕ} (L : LinesOn 
     share-dealer = share-admitted .dealer .1
 
     module _ {share : Record} (e : share ≡ recordAt b i) where
-      pub share-member : (1 ≤ memberOf share) × (memberOf share ≤ S .n) × (keyRecord b (memberOf share) < recordsIn b)
+      pub share-member : (1 ≤ memberOf share) × (memberOf share ≤ S .n) × (keyPlace b (memberOf share) < recordsIn b)
       share-member =
           let a = share-admitted .member in
           let m = ap (λ (r : Record). memberOf r) e in
@@ -135,12 +135,12 @@ module _ {S : Setting} {b : List ℕ} {d : ℕ} {lines : List ℕ} (L : LinesOn 
           let l : memberOf share ≤ S .n = omega (arith, a .1, m) in
           (h, l, keys-exact S b (L .reached) (memberOf share) h l .inside)
 
-      pub answered : {key line : Record} → key ≡ recordAt b (keyRecord b (memberOf share)) → line ≡ recordAt lines (memberOf share - 1)
+      pub answered : {key line : Record} → key ≡ recordAt b (keyPlace b (memberOf share)) → line ≡ recordAt lines (memberOf share - 1)
           → judgeShareFiguresIn shareTag S d (memberOf share) (yOf key) (YOf line) share ≡ shareAnswer judges S b d i
       unfolding shareAnswer keyIn YIn recordAt
       answered {key} {line} ek el =
           let m : memberOf share ≡ memberOf (recordAt b i) = ap (λ (r : Record). memberOf r) e in
-          let y = ap (λ (r : Record). yOf r) (ek ∙ ap (λ (x : ℕ). recordAt b (keyRecord b x)) m) in
+          let y = ap (λ (r : Record). yOf r) (ek ∙ ap (λ (x : ℕ). recordAt b (keyPlace b x)) m) in
           let Y = ap (λ (r : Record). YOf r) (el ∙ (λ j. recordAt (L .part j) (m j - 1))) in
           (λ j. judgeShareFiguresIn shareTag S d (m j) (y j) (Y j) (e j))
           ∙ figures-decide S d (memberOf (recordAt b i)) (keyIn b (memberOf (recordAt b i))) (YIn (linesOf b d) (memberOf (recordAt b i))) (take 32 (drop (32 * i) b)) share-admitted

@@ -17,7 +17,7 @@ use Rattle.records.specs.Layout.{shareKind, dealerOf, memberOf, uOf, ZOf, recor
 use Rattle.dealing.specs.Dealing.{vsIn, YIn, judgeDealingIn}
 use Rattle.share.specs.Share.{judgeShareIn}
 use Rattle.board.specs.Search.{filter, recordsIn}
-use Rattle.board.specs.Board.{boardChecks, keyIn, keysIn, lineCount, linesOf, openingRecord}
+use Rattle.board.specs.Board.{boardChecks, keyIn, keysIn, lineCount, linesOf, openingPlace}
 use Rattle.verdicts.specs.declared.Secret.{Secret}
 use Rattle.verdicts.specs.declared.Secret.the-variants.{Opened, Recovered, Stuck}
 use Rattle.verdicts.specs.declared.Verdict.{Verdict}
@@ -86,14 +86,14 @@ fromShares J S b d =
 -- his opening, where there is one, is accepted for his commitments
 unfoldable pub isOpened : Setting → List ℕ → ℕ → Bool
 isOpened S b d =
-    ltb (openingRecord b d) (recordsIn b)
-    && isValue (openingIn S (commitmentsOf S b d) (uOf (recordAt b (openingRecord b d))))
+    ltb (openingPlace b d) (recordsIn b)
+    && isValue (openingIn S (commitmentsOf S b d) (uOf (recordAt b (openingPlace b d))))
 
 -- a right opening counts first
 unfoldable pub secretBy : Judges → Setting → List ℕ → ℕ → Secret
 secretBy J S b d =
     pick (isOpened S b d)
-    (Opened (record { 0 = pow (S .group .p) (S .group .h .0) (uOf (recordAt b (openingRecord b d))) }))
+    (Opened (record { 0 = pow (S .group .p) (S .group .h .0) (uOf (recordAt b (openingPlace b d))) }))
     (fromShares J S b d)
 
 -- ---- the verdict: none without lines, 12 with some but not n, else what the judge of dealings answers

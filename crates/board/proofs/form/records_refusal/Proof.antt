@@ -9,8 +9,8 @@ use borrow.Author.Tests.{not-true, not-false}
 use Rattle.words.specs.Checks.{refusal}
 use Rattle.records.specs.Layout.{isRoundless}
 use Rattle.board.specs.Search.{recordsIn}
-use Rattle.board.specs.Board.{isShaped, recordChecks}
-use Rattle.board.proofs.Steps.{inOrder, test-found, order-found, order-first, unshaped, unplain, unordered, record-passed, records-passed}
+use Rattle.board.specs.Board.{isShaped, inOrder, recordChecks}
+use Rattle.board.proofs.Steps.{test-found, order-found, order-first, unshaped, unplain, unordered, record-passed, records-passed}
 use Rattle.board.proofs.form.records_refusal.Statement.{statement}
 use Rattle.board.proofs.form.records_refusal.Tie as tie
 

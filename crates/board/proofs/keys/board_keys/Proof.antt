@@ -13,11 +13,11 @@ use Rattle.sharing.specs.Setting.{members}
 use Rattle.records.specs.Layout.{yOf, recordAt}
 use Rattle.records.proofs.Members.{members-exactly, members-next}
 use Rattle.board.specs.Search.{recordsIn}
-use Rattle.board.specs.Board.{keyRecord, hasKey, keyIn, keysIn}
+use Rattle.board.specs.Board.{keyPlace, hasKey, keyIn, keysIn}
 use Rattle.board.proofs.keys.board_keys.Statement.{statement}
 use Rattle.board.proofs.keys.board_keys.Tie as tie
 
-key-inside : (b : List ℕ) (n i : ℕ) → all (hasKey b) (members n) ≡ true → i < n → keyRecord b (i + 1) < recordsIn b
+key-inside : (b : List ℕ) (n i : ℕ) → all (hasKey b) (members n) ≡ true → i < n → keyPlace b (i + 1) < recordsIn b
 key-inside b n i e h = ltb-true _ _ (members-exactly (hasKey b) n .0 e (i + 1) (omega arith) (omega arith))
 
 abbrev Inv-loop : tie.InvT-loop

@@ -9,7 +9,7 @@ use Rattle.words.specs.Lists.{all}
 use Rattle.sharing.specs.Setting.{members}
 use Rattle.records.proofs.Members.{tests-stop, tests-next, tests-end}
 use Rattle.board.specs.Search.{recordsIn}
-use Rattle.board.specs.Board.{keyRecord, hasKey}
+use Rattle.board.specs.Board.{keyPlace, hasKey}
 use Rattle.board.proofs.keys.has_keys.Statement.{statement}
 use Rattle.board.proofs.keys.has_keys.Tie as tie
 
@@ -37,7 +37,7 @@ returns c =
     let l = w .before .loop in
     let a = w .before .before .before .args in
     let b = a .b .now in
-    let none : recordsIn b ≤ keyRecord b (l .i + 1) = omega (arith, c .before .records .ensures, c .before .before .find-key .ensures) in
+    let none : recordsIn b ≤ keyPlace b (l .i + 1) = omega (arith, c .before .records .ensures, c .before .before .find-key .ensures) in
     tests-stop _ _ (l .i) (l .inv .1) (w .loop-test .taken) (le-ltb _ _ none)
 
 add-i : tie.Need-add-i Inv-loop μ-loop
@@ -52,7 +52,7 @@ loop-again c =
     let l = w .before .loop in
     let a = w .before .before .before .args in
     let b = a .b .now in
-    let found : keyRecord b (l .i + 1) < recordsIn b = omega (arith, c .before .records .ensures, c .before .before .find-key .ensures) in
+    let found : keyPlace b (l .i + 1) < recordsIn b = omega (arith, c .before .records .ensures, c .before .before .find-key .ensures) in
     (search needs, tests-next _ _ (l .i) (l .inv .1) (w .loop-test .taken) (lt-ltb _ _ found))
 
 returns-2 : tie.Need-returns-2 Inv-loop μ-loop
