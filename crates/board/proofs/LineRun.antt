@@ -14,7 +14,8 @@ use Rattle.sharing.specs.Setting.{ProperSetting}
 use Rattle.sharing.specs.declared.Setting.{Setting}
 use Rattle.records.specs.Layout.{lineKind, dealerOf, memberOf, isRoundless, recordAt}
 use Rattle.board.specs.Search.{recordsIn}
-use Rattle.board.specs.Board.{formChecks, Sorted, linesStart, linesEnd, lineCount, linesOf}
+use Rattle.board.specs.Board.{formChecks, linesStart, linesEnd, lineCount, linesOf}
+use Rattle.board.specs.Sorted.{Sorted}
 use Rattle.board.specs.Claims.{ExactLines, LinesExact}
 use Rattle.board.proofs.Searches.{fills}
 use Rattle.board.proofs.Order.{Shaped, shapes, roundless, sorted, members-rise}

@@ -22,7 +22,8 @@ use Rattle.records.specs.Layout.{agrees, isKeyRecord, isLineRecord, isOpeningRe
 use Rattle.records.specs.Keys.{keyChecks}
 use Rattle.records.proofs.Members.{member-exactly}
 use Rattle.board.specs.Search.{recordsIn}
-use Rattle.board.specs.Board.{isShaped, isBelow, isAbove, inOrder, oneRecordChecks, recordChecks, formChecks, Sorted, hasKey, keysIn, boardKeyChecks, boardChecks}
+use Rattle.board.specs.Board.{isShaped, isBelow, isAbove, inOrder, oneRecordChecks, recordChecks, formChecks, hasKey, keysIn, boardKeyChecks, boardChecks}
+use Rattle.board.specs.Sorted.{Sorted}
 
 -- ---- the checks before verdicts, taken apart
 pub record Reached (S : Setting) (b : List ℕ) : Type 0 where

@@ -14,7 +14,8 @@ use Rattle.words.specs.declared.Record.{Record}
 use Rattle.words.proofs.Tests.{false-true, and-true, true-and, equal-true, true-equal}
 use Rattle.records.specs.Layout.{recordAt}
 use Rattle.board.specs.Search.{recordsIn}
-use Rattle.board.specs.Board.{isBelow, Sorted, placeOf, isAt, recordBy}
+use Rattle.board.specs.Board.{isBelow, placeOf, isAt, recordBy}
+use Rattle.board.specs.Sorted.{Sorted}
 use Rattle.board.proofs.Searches.{First, first-passes, first-low}
 use Rattle.board.proofs.Order.{Below, by-kind, by-dealer, by-member, below-true, true-below, below-member, below-trans}
 

@@ -1,8 +1,7 @@
 -- The board's records: their form and order, the keys, a dealer's lines and opening, and what is refused before verdicts.
-use mathlib.Core.Path.{_≡_}
 use mathlib.Core.Bool.{Bool, true, false, not, _&&_}
 use mathlib.Core.List.{List, [], _∷_, _++_}
-use Prim.Native.Nat.{ℕ, zero, suc, _+_, _-_, _*_, _%_, _<_}
+use Prim.Native.Nat.{ℕ, zero, suc, _+_, _-_, _*_, _%_}
 use lib.ListN.{length, take, drop}
 use lib.Dec.{leb, ltb, eqb}
 use Rattle.words.specs.Choice.{pick}
@@ -54,10 +53,6 @@ recordChecks n b i (suc m) = oneRecordChecks n b i ++ recordChecks n b (suc i) m
 -- whole records, at most 2,048, each in form and above the one before
 unfoldable pub formChecks : ℕ → List ℕ → List Check
 formChecks n b = 3 unless (eqb (length b % 32) 0 && leb (recordsIn b) 2048) ∷ recordChecks n b 0 (recordsIn b)
-
--- every record is above those before it
-pub record Sorted (b : List ℕ) : Type 0 where
-  pub ascends : (i j : ℕ) → i < j → j < recordsIn b → isAbove (recordAt b i) (recordAt b j) ≡ true
 
 -- ---- records by their address
 -- the place of an address: the first record that is not below it, the number of records where there is none

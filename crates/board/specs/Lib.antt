@@ -1,4 +1,5 @@
 -- What a board is, what is refused before verdicts, and what is claimed of its keys and lines.
 pub mod Search
 pub mod Board
+pub mod Sorted
 pub mod Claims

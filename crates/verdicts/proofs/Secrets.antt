@@ -25,7 +25,8 @@ use Rattle.board.specs.Search.{filter, recordsIn}
 use Rattle.board.specs.Board.{keysIn, linesOf, openingPlace}
 use Rattle.board.proofs.Searches.{filter-up}
 use Rattle.board.proofs.Order.{reached, shapes}
-use Rattle.verdicts.specs.Verdict.{Judges, LinesOn, commitmentsOf, isShareBy, sharesBy, fromShares, isOpened, secretBy}
+use Rattle.verdicts.specs.Verdict.{Judges, commitmentsOf, isShareBy, sharesBy, fromShares, isOpened, secretBy}
+use Rattle.verdicts.specs.Posted.{LinesOn}
 use Rattle.verdicts.specs.Gathered.{heldOf, lowestBy}
 use Rattle.verdicts.specs.declared.GatheredShares.{GatheredShares}
 use Rattle.verdicts.specs.declared.Secret.the-variants.{Opened, Recovered, Stuck}

@@ -28,13 +28,15 @@ use Rattle.share.specs.Share.{judgeShareChecks, judgeShareFiguresIn, judgeShare
 use Rattle.share.specs.Claims.{AdmittedShare}
 use Rattle.share.proofs.Shares.{figures-decide}
 use Rattle.board.specs.Search.{filter, recordsIn}
-use Rattle.board.specs.Board.{formChecks, Sorted, placeOf, keyPlace, keyIn, keysIn, linesOf}
+use Rattle.board.specs.Board.{formChecks, placeOf, keyPlace, keyIn, keysIn, linesOf}
+use Rattle.board.specs.Sorted.{Sorted}
 use Rattle.board.proofs.Searches.{filter-run}
 use Rattle.board.proofs.Order.{reached, shapes, roundless, sorted}
 use Rattle.board.proofs.Places.{place-within, run-rises, in-run, to-run}
 use Rattle.board.proofs.KeyRecords.{keys-exact}
 use Rattle.board.proofs.LineRun.{lines-exact}
-use Rattle.verdicts.specs.Verdict.{Judges, judges, LinesOn, ShareOf, shareAnswer, isShareBy, sharesBy}
+use Rattle.verdicts.specs.Verdict.{Judges, judges, shareAnswer, isShareBy, sharesBy}
+use Rattle.verdicts.specs.Posted.{LinesOn, ShareOf}
 use Rattle.verdicts.specs.Gathered.{withShare}
 use Rattle.verdicts.specs.declared.GatheredShares.{GatheredShares}
 

@@ -1,23 +1,22 @@
 -- The verdict on each dealer. The two judges are a parameter: nothing here depends on how they work.
-use mathlib.Core.Path.{_≡_}
 use mathlib.Core.Bool.{Bool, _&&_}
 use mathlib.Core.List.{List}
-use Prim.Native.Nat.{ℕ, _*_, _<_}
+use Prim.Native.Nat.{ℕ, _*_}
 use lib.ListN.{length, take, drop}
 use lib.Dec.{ltb, eqb}
 use Rattle.words.specs.Choice.{pick}
 use Rattle.words.specs.Lists.{map, upFrom}
-use Rattle.words.specs.Checks.{Outcome, value, refused, isValue, Met}
+use Rattle.words.specs.Checks.{Outcome, value, refused, isValue}
 use Rattle.group.specs.Power.{pow}
 use Rattle.group.specs.declared.Element.{Element}
-use Rattle.sharing.specs.Setting.{ProperSetting, members}
+use Rattle.sharing.specs.Setting.{members}
 use Rattle.sharing.specs.Answer.{openingIn, recovered}
 use Rattle.sharing.specs.declared.Setting.{Setting}
 use Rattle.records.specs.Layout.{shareKind, dealerOf, memberOf, uOf, ZOf, recordAt}
 use Rattle.dealing.specs.Dealing.{vsIn, YIn, judgeDealingIn}
 use Rattle.share.specs.Share.{judgeShareIn}
 use Rattle.board.specs.Search.{filter, recordsIn}
-use Rattle.board.specs.Board.{boardChecks, keyIn, keysIn, lineCount, linesOf, openingPlace}
+use Rattle.board.specs.Board.{keyIn, keysIn, lineCount, linesOf, openingPlace}
 use Rattle.verdicts.specs.declared.Secret.{Secret}
 use Rattle.verdicts.specs.declared.Secret.the-variants.{Opened, Recovered, Stuck}
 use Rattle.verdicts.specs.declared.Verdict.{Verdict}
@@ -45,21 +44,7 @@ isAccepted J S b d = eqb (lineCount b d) (S .n) && isValue (dealingAnswer J S b 
 abbrev pub commitmentsOf : Setting → List ℕ → ℕ → List ℕ
 commitmentsOf S b d = vsIn (S .n) (linesOf b d)
 
--- in a proper setting verdicts are reached, and these are the n lines of the dealer d, accepted by the judge of dealings
-pub record LinesOn (S : Setting) (b : List ℕ) (d : ℕ) (lines : List ℕ) : Type 0 where
-  pub proper : ProperSetting S
-  pub reached : Met (boardChecks S b)
-  pub part : lines ≡ linesOf b d
-  pub size : lineCount b d ≡ S .n
-  pub accepted : dealingAnswer judges S b d ≡ value tt
-
 -- ---- accepted shares
--- the record i is a share of the dealer d
-pub record ShareOf (b : List ℕ) (d i : ℕ) : Type 0 where
-  pub inside : i < recordsIn b
-  pub kind : recordAt b i .w0 ≡ shareKind
-  pub dealer : dealerOf (recordAt b i) ≡ d
-
 -- what the judge of opened shares answers for the record i with the key of its member and the Y of that member's line
 unfoldable pub shareAnswer : Judges → Setting → List ℕ → ℕ → ℕ → Outcome Element
 shareAnswer J S b d i =

@@ -2,7 +2,8 @@
 ghost use mathlib.Core.Path.{_≡_};
 ghost use Prim.Native.Nat.{_<_};
 ghost use Rattle.group.specs.Answer.{elementOutcomeOf};
-ghost use Rattle.verdicts.specs.Verdict.{judges, LinesOn, ShareOf, shareAnswer};
+ghost use Rattle.verdicts.specs.Verdict.{judges, shareAnswer};
+ghost use Rattle.verdicts.specs.Posted.{LinesOn, ShareOf};
 ghost use Rattle.verdicts.specs.Gathered.{withShare, lowestBy};
 use crate::GatheredShares;
 use board::find_key;
