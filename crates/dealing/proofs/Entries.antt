@@ -21,13 +21,20 @@ use Rattle.records.proofs.Members.{each-members, number-at, members-front}
 use Rattle.challenge.specs.Message.{message, coefficientTag, challengeOf, dealingMessage, coefficientMessage, checkPolynomial}
 use Rattle.challenge.proofs.Challenges.{bytes-same, message-same}
 use Rattle.equality.specs.Equality.{announced}
-use Rattle.dealing.specs.Dealing.{recomputed, rangeChecks, equationChecks, figureChecks}
+use Rattle.dealing.specs.Dealing.{vIn, YIn, rIn, cIn, recomputed, rangeChecks, equationChecks, figureChecks, lineFigureChecks}
+use Rattle.dealing.specs.Columns.{columnsOf, columnChecks}
+use Rattle.dealing.specs.declared.Columns.{Columns}
 
 -- ---- two functions of the member that agree on the members
 pub record Agree (n : ℕ) (f g : ℕ → ℕ) : Type 0 where
   pub at : (i : ℕ) → 1 ≤ i → i ≤ n → f i ≡ g i
 
--- the entries of an array that a function fills are its values
+-- the entries of a list that a function gives are its values
+pub member-entry : (f : ℕ → ℕ) (n i : ℕ) → 1 ≤ i → i ≤ n → entry (map f (members n)) i ≡ f i
+unfolding entry
+member-entry f n i h k = map-at f (members n) (i - 1) 0 0 (omega (arith, up-length 1 n)) ∙ ap f (member-at n i h k)
+
+-- so are those of an array that it fills
 pub filled-agree : (f : ℕ → ℕ) (n : ℕ) {l : List ℕ} → l ≡ filled 31 (map f (members n)) → Agree n (entry l) f
 unfolding entry
 filled-agree f n {l} e =
@@ -35,8 +42,7 @@ filled-agree f n {l} e =
       at = λ i h k.
           sym (getD-take n l (i - 1) 0 (omega arith))
           ∙ ap (λ (x : List ℕ). getD x (i - 1) 0) (members-front f n e)
-          ∙ map-at f (members n) (i - 1) 0 0 (omega (arith, up-length 1 n))
-          ∙ ap f (member-at n i h k);
+          ∙ member-entry f n i h k;
     }
 
 -- the first n figures of a list are its entries
@@ -88,7 +94,7 @@ module _ (S : Setting) (d : ℕ) {v Y v' Y' : ℕ → ℕ} (p : Agree (S .n) v v
         (record { at = λ i h l j. announced (S .group) (S .group .g .0) (p .at i h l j) (t .at i h l j) (s .at i h l j) })
         (record { at = λ i h l j. announced (S .group) (entry ys i) (q .at i h l j) (t .at i h l j) (s .at i h l j) })
 
-    pub figures-same : figureChecks S d ys v Y r c ≡ figureChecks S d ys v' Y' r' c'
+    figures-same : figureChecks S d ys v Y r c ≡ figureChecks S d ys v' Y' r' c'
     unfolding rangeChecks equationChecks
     figures-same =
         let G = S .group in
@@ -104,3 +110,13 @@ module _ (S : Setting) (d : ℕ) {v Y v' Y' : ℕ → ℕ} (p : Agree (S .n) v v
         ∷ 9 unless eqb (degreeProduct S (vs j) (polynomial-same j)) 1
         ∷ 10 unless ten j
         ∷ []
+
+-- the columns of lines are checked as the lines are
+pub columns-same : (S : Setting) (d : ℕ) (ys b : List ℕ) {t : Columns} → t ≡ columnsOf (S .n) b → columnChecks S d ys t ≡ lineFigureChecks S d ys b
+unfolding columnsOf
+columns-same S d ys b e =
+    let v = filled-agree (vIn b) (S .n) (ap (λ (x : Columns). x .vs) e) in
+    let Y = filled-agree (YIn b) (S .n) (ap (λ (x : Columns). x .encrypted) e) in
+    let r = filled-agree (rIn b) (S .n) (ap (λ (x : Columns). x .rs) e) in
+    let c = filled-agree (cIn b) (S .n) (ap (λ (x : Columns). x .cs) e) in
+    figures-same S d v Y ys r c

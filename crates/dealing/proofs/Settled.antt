@@ -18,7 +18,7 @@ use Rattle.sharing.specs.Carried.{Polynomial}
 use Rattle.sharing.specs.declared.Setting.{Setting}
 use Rattle.records.specs.Keys.{isKey, keyChecks}
 use Rattle.records.proofs.Members.{member-exactly}
-use Rattle.dealing.specs.Dealing.{addressChecks, writeSizeChecks, secretChecks, writeDealingChecks, judgeSizeChecks, lineChecks, dealingFormChecks, FormedDealing}
+use Rattle.dealing.specs.Dealing.{addressChecks, writeSizeChecks, secretChecks, writeDealingChecks, judgeSizeChecks, lineChecks, dealingFormChecks}
 
 -- ---- the keys
 module _ (G : Group) (ys : List ℕ) where
@@ -31,6 +31,13 @@ module _ (G : Group) (ys : List ℕ) where
   keys-met a = (true-all (isKey G) ys a, tt)
 
 -- ---- the judge, before the lines' figures
+pub record FormedDealing (S : Setting) (d : ℕ) (ys b : List ℕ) : Type 0 where
+  pub dealer : (1 ≤ d) × (d ≤ S .n)
+  pub keys-size : length ys ≡ S .n
+  pub size : length b ≡ 32 * S .n
+  pub keys : Met (keyChecks (S .group) ys)
+  pub lines : Met (lineChecks S d b)
+
 module _ (S : Setting) (d : ℕ) (ys b : List ℕ) where
   pub met-formed : Met (dealingFormChecks S d ys b) → FormedDealing S d ys b
   unfolding dealingFormChecks addressChecks judgeSizeChecks

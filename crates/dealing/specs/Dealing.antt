@@ -1,12 +1,11 @@
 -- A dealing as it is written, and as it is judged: definitions over a setting, and over a round, whose own checks come first.
-use mathlib.Core.Path.{_≡_}
 use mathlib.Core.Bool.{Bool, _&&_}
 use mathlib.Core.List.{List, [], _∷_, _++_}
-use Prim.Native.Nat.{ℕ, _*_, _≤_}
+use Prim.Native.Nat.{ℕ, _*_}
 use lib.ListN.{length}
 use lib.Dec.{eqb}
 use Rattle.words.specs.Lists.{map, all}
-use Rattle.words.specs.Checks.{Check, _unless_, Outcome, outcome, Met, ifMet}
+use Rattle.words.specs.Checks.{Check, _unless_, Outcome, outcome, ifMet}
 use Rattle.words.specs.declared.Record.{Record}
 use Rattle.field.specs.Polynomial.{valueAt}
 use Rattle.group.specs.Power.{pow}
@@ -111,14 +110,6 @@ lineChecks S d b = 4 unless all (isLineOf d b) (members (S .n)) ∷ []
 -- the stages before the figures
 unfoldable pub dealingFormChecks : Setting → ℕ → List ℕ → List ℕ → List Check
 dealingFormChecks S d ys b = (addressChecks S d ++ judgeSizeChecks S ys b) ++ (keyChecks (S .group) ys ++ lineChecks S d b)
-
--- what they leave
-pub record FormedDealing (S : Setting) (d : ℕ) (ys b : List ℕ) : Type 0 where
-  pub dealer : (1 ≤ d) × (d ≤ S .n)
-  pub keys-size : length ys ≡ S .n
-  pub size : length b ≡ 32 * S .n
-  pub keys : Met (keyChecks (S .group) ys)
-  pub lines : Met (lineChecks S d b)
 
 -- ---- judged: the figures v, Y, r and c of the members
 -- the challenge that they give

@@ -3,15 +3,15 @@ ghost use mathlib.Core.Path.{_≡_};
 ghost use Prim.Native.Nat.{_*_, _≤_};
 ghost use lib.Dec.{eqb};
 ghost use lib.ListN.{length};
-ghost use Rattle.words.specs.Lists.{map, all, filled};
+ghost use Rattle.words.specs.Lists.{map, all};
 ghost use Rattle.words.specs.Checks.{refusal, outcome};
 ghost use Rattle.words.specs.Bytes.{recordIn};
 ghost use Rattle.sharing.specs.Setting.{ProperSetting, members};
 ghost use Rattle.sharing.specs.Answer.{checkOutcomeOf, degreeProduct};
 ghost use Rattle.records.specs.Layout.{entry};
 ghost use Rattle.challenge.specs.Message.{checkPolynomial};
-ghost use Rattle.dealing.specs.Dealing.{vIn, YIn, rIn, cIn, isLineFor, isLineOf, dealingFormChecks, FormedDealing};
-ghost use Rattle.dealing.specs.Dealing.{recomputed, rangeChecks, figureChecks, lineFigureChecks, judgeDealingIn, judgeDealingOutcome};
+ghost use Rattle.dealing.specs.Dealing.{isLineFor, isLineOf, dealingFormChecks, recomputed, rangeChecks, judgeDealingIn, judgeDealingOutcome};
+ghost use Rattle.dealing.specs.Columns.{columnsOf, columnChecks};
 use crate::Columns;
 use challenge::check_polynomial;
 use challenge::dealing_challenge;
@@ -95,12 +95,7 @@ fn form_refusal(s: Setting, d: u32, ys: &[u32], lines: &[u8]) -> u32
 // The figures of n lines. Internal: callers ensure that the bytes are n records, at most 31.
 pub fn read_lines(lines: &[u8], n: usize) -> Columns
     requires { ⌜ (n ≤ 31) × (length (now lines) ≡ 32 * n) ⌝ }
-    ensures { λ t. ⌜ t ≡ record {
-      vs = filled 31 (map (vIn (now (lines .entry))) (members n));
-      encrypted = filled 31 (map (YIn (now (lines .entry))) (members n));
-      rs = filled 31 (map (rIn (now (lines .entry))) (members n));
-      cs = filled 31 (map (cIn (now (lines .entry))) (members n));
-    } ⌝ }
+    ensures { λ t. ⌜ t ≡ columnsOf n (now (lines .entry)) ⌝ }
 {
     let mut vs = [0u32; 31];
     let mut encrypted = [0u32; 31];
@@ -200,9 +195,9 @@ fn range_refusal(
 }
 
 // Judges figures: 6 for a v or Y, 7, 9 and 10. Internal: callers ensure a proper setting, a dealer at most n, and n keys.
-fn judge_figures(s: Setting, d: u32, ys: &[u32], t: Columns) -> CheckAnswer
+pub fn judge_figures(s: Setting, d: u32, ys: &[u32], t: Columns) -> CheckAnswer
     requires { ⌜ (ProperSetting s) × (d ≤ s .n) × (length (now ys) ≡ s .n) ⌝ }
-    ensures { λ r. ⌜ checkOutcomeOf r ≡ outcome (figureChecks s d (now (ys .entry)) (entry (t .vs)) (entry (t .encrypted)) (entry (t .rs)) (entry (t .cs))) tt ⌝ }
+    ensures { λ r. ⌜ checkOutcomeOf r ≡ outcome (columnChecks s d (now (ys .entry)) t) tt ⌝ }
 {
     let vs = t.vs;
     let encrypted = t.encrypted;
@@ -219,15 +214,6 @@ fn judge_figures(s: Setting, d: u32, ys: &[u32], t: Columns) -> CheckAnswer
     passed_if(all_equal(c, cs, s.n as usize), 10)
 }
 
-// Judges the figures of the lines of the dealer d: 6 for a v or Y, 7, 9 and 10.
-// Internal: callers ensure a proper setting, and that no check before those of the figures refuses.
-pub fn judge_lines(s: Setting, d: u32, ys: &[u32], lines: &[u8]) -> CheckAnswer
-    requires { ⌜ (ProperSetting s) × (FormedDealing s d (now ys) (now lines)) ⌝ }
-    ensures { λ r. ⌜ checkOutcomeOf r ≡ outcome (lineFigureChecks s d (now (ys .entry)) (now (lines .entry))) tt ⌝ }
-{
-    judge_figures(s, d, ys, read_lines(lines, s.n as usize))
-}
-
 // Judges a dealing in a setting: 8, 3, 6, 4, 6, 7, 9 and 10. Internal: callers ensure that the setting is proper.
 pub fn judge_dealing_in(s: Setting, d: u32, ys: &[u32], lines: &[u8]) -> CheckAnswer
     requires { ⌜ ProperSetting s ⌝ }
@@ -237,7 +223,7 @@ pub fn judge_dealing_in(s: Setting, d: u32, ys: &[u32], lines: &[u8]) -> CheckAn
     if k != 0 {
         return CheckAnswer::Refused(k);
     }
-    judge_lines(s, d, ys, lines)
+    judge_figures(s, d, ys, read_lines(lines, s.n as usize))
 }
 
 // Judges the lines of the dealer d, with the keys ys. Refused: 1 and 2 as setting_of; 8 d is no member; 3 not n keys or not 32n

@@ -4,7 +4,7 @@ mod writer;
 
 pub use judge::judge_dealing;
 pub use judge::judge_dealing_in;
-pub use judge::judge_lines;
+pub use judge::judge_figures;
 pub use judge::read_lines;
 pub use writer::write_dealing;
 pub use writer::write_dealing_in;

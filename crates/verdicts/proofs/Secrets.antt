@@ -11,22 +11,26 @@ use lib.Dec.{ltb}
 use Rattle.words.specs.Choice.{pick}
 use Rattle.words.specs.Lists.{Below, map, upFrom}
 use Rattle.words.specs.Checks.{value, refused, isValue}
-use Rattle.words.proofs.Lists.{All-to, All-take, map-all, map-length, filled-front}
+use Rattle.words.proofs.Lists.{All-to, All-take, map-all, map-length, up-length, filled-front}
 use Rattle.words.proofs.Tests.{and-true, pick-true, pick-false}
 use Rattle.group.specs.Power.{pow}
 use Rattle.group.specs.Element.{isExponent}
+use Rattle.sharing.specs.Setting.{members}
 use Rattle.sharing.specs.Answer.{openingFigures, openingEquation, openingIn, isOpening, recovered}
 use Rattle.sharing.specs.Carried.{Commitments}
 use Rattle.sharing.specs.declared.Setting.{Setting}
 use Rattle.records.specs.Layout.{memberOf, uOf, ZOf, recordAt}
-use Rattle.dealing.specs.Dealing.{vsIn}
+use Rattle.records.proofs.Members.{members-front}
+use Rattle.dealing.specs.Dealing.{vIn, YIn, vsIn}
+use Rattle.dealing.specs.Columns.{columnsOf}
+use Rattle.dealing.specs.declared.Columns.{Columns}
 use Rattle.dealing.proofs.Judged.{accepted-passes}
 use Rattle.board.specs.Search.{filter, recordsIn}
 use Rattle.board.specs.Board.{keysIn, linesOf, openingPlace}
 use Rattle.board.proofs.Searches.{filter-up}
 use Rattle.board.proofs.Order.{reached, shapes}
 use Rattle.verdicts.specs.Verdict.{Judges, commitmentsOf, isShareBy, sharesBy, fromShares, isOpened, secretBy}
-use Rattle.verdicts.specs.Posted.{LinesOn}
+use Rattle.verdicts.specs.Posted.{LinesOn, encryptedOf}
 use Rattle.verdicts.specs.Gathered.{heldOf, lowestBy}
 use Rattle.verdicts.specs.declared.GatheredShares.{GatheredShares}
 use Rattle.verdicts.specs.declared.Secret.the-variants.{Opened, Recovered, Stuck}
@@ -40,7 +44,7 @@ all-taken t xs h = omega (arith, length-take t xs)
 pub full-taken : (k : ℕ) (l : List ℕ) → length (take k l) ≡ k → k ≤ length l
 full-taken k l e = omega (arith, length-take k l, e)
 
-module _ (J : Judges) {S : Setting} {b : List ℕ} {d : ℕ} {lines : List ℕ} (L : LinesOn S b d lines) where
+module _ (J : Judges) {S : Setting} {b : List ℕ} {d : ℕ} (L : LinesOn S b d) where
   abbrev taken : List ℕ
   taken = take (S .t) (sharesBy J S b d)
 
@@ -112,7 +116,25 @@ module _ (S : Setting) (b : List ℕ) (d : ℕ) where
   unfolding isOpened
   opened-none h = sym (ap (λ (t : Bool). t && isValue (openingIn S (commitmentsOf S b d) opening)) (le-ltb (openingPlace b d) (recordsIn b) h))
 
-  module _ {lines : List ℕ} (L : LinesOn S b d lines) (h : openingPlace b d < recordsIn b) {u : ℕ} (e : u ≡ opening) where
+  -- the first n places of a column hold the figures of his lines
+  pub commitments-count : {vs : List ℕ} → vs ≡ commitmentsOf S b d → length vs ≡ S .n
+  unfolding vsIn
+  commitments-count v = ap length v ∙ map-length (vIn (linesOf b d)) (members (S .n)) ∙ up-length 1 (S .n)
+
+  pub encrypted-count : {Ys : List ℕ} → Ys ≡ encryptedOf S b d → length Ys ≡ S .n
+  unfolding encryptedOf
+  encrypted-count Y = ap length Y ∙ map-length (YIn (linesOf b d)) (members (S .n)) ∙ up-length 1 (S .n)
+
+  module _ {figures : Columns} (f : figures ≡ columnsOf (S .n) (linesOf b d)) where
+    pub commitments-are : take (S .n) (figures .vs) ≡ commitmentsOf S b d
+    unfolding vsIn columnsOf
+    commitments-are = members-front (vIn (linesOf b d)) (S .n) (ap (λ (x : Columns). x .vs) f)
+
+    pub encrypted-are : take (S .n) (figures .encrypted) ≡ encryptedOf S b d
+    unfolding encryptedOf columnsOf
+    encrypted-are = members-front (YIn (linesOf b d)) (S .n) (ap (λ (x : Columns). x .encrypted) f)
+
+  module _ (L : LinesOn S b d) (h : openingPlace b d < recordsIn b) {u : ℕ} (e : u ≡ opening) where
     told : isOpened S b d ≡ isExponent (S .group) u && isOpening S (commitmentsOf S b d) u
     unfolding isOpened
     told =
@@ -123,9 +145,9 @@ module _ (S : Setting) (b : List ℕ) (d : ℕ) where
     pub opened-high : isExponent (S .group) u ≡ false → false ≡ isOpened S b d
     opened-high f = sym (told ∙ ap (λ (t : Bool). t && isOpening S (commitmentsOf S b d) u) f)
 
-    pub opened-told : isExponent (S .group) u ≡ true → {vs : List ℕ} → vs ≡ vsIn (S .n) lines → isOpening S vs u ≡ isOpened S b d
+    pub opened-told : isExponent (S .group) u ≡ true → {vs : List ℕ} → vs ≡ commitmentsOf S b d → isOpening S vs u ≡ isOpened S b d
     opened-told f v =
-        ap (λ (l : List ℕ). isOpening S l u) (v ∙ ap (vsIn (S .n)) (L .part))
+        ap (λ (l : List ℕ). isOpening S l u) v
         ∙ sym (told ∙ ap (λ (t : Bool). t && isOpening S (commitmentsOf S b d) u) f)
 
   pub opening-inside : isOpened S b d ≡ true → openingPlace b d < recordsIn b

@@ -6,7 +6,7 @@ use mathlib.Core.List.{List}
 use Prim.Native.Nat.{ℕ, _+_, _-_, _*_, _<_, _≤_}
 use native.Mathlib.Omega.{arith}
 use borrow.Author.Tests.{eq-eqb, eqb-true}
-use lib.ListN.{length, take, drop, set, length-drop}
+use lib.ListN.{take, drop, set, length-drop}
 use lib.Seq.{length-take-le}
 use lib.Dec.{eqb}
 use Rattle.words.specs.Lists.{upFrom}
@@ -20,9 +20,10 @@ use Rattle.group.specs.declared.Element.{Element}
 use Rattle.group.specs.declared.ElementAnswer.{ElementAnswer}
 use Rattle.group.specs.declared.ElementAnswer.the-variants.{Value, Refused}
 use Rattle.sharing.specs.declared.Setting.{Setting}
-use Rattle.records.specs.Layout.{shareKind, dealerOf, memberOf, yOf, YOf, ZOf, recordAt}
+use Rattle.records.specs.Layout.{shareKind, dealerOf, memberOf, yOf, ZOf, entry, recordAt}
 use Rattle.challenge.specs.Message.{shareTag}
 use Rattle.dealing.specs.Dealing.{YIn}
+use Rattle.dealing.proofs.Entries.{member-entry}
 use Rattle.dealing.proofs.Judged.{dealing-exactly}
 use Rattle.share.specs.Share.{judgeShareChecks, judgeShareFiguresIn, judgeShareIn}
 use Rattle.share.specs.Claims.{AdmittedShare}
@@ -34,9 +35,8 @@ use Rattle.board.proofs.Searches.{filter-run}
 use Rattle.board.proofs.Order.{reached, shapes, roundless, sorted}
 use Rattle.board.proofs.Places.{place-within, run-rises, in-run, to-run}
 use Rattle.board.proofs.KeyRecords.{keys-exact}
-use Rattle.board.proofs.LineRun.{lines-exact}
 use Rattle.verdicts.specs.Verdict.{Judges, judges, shareAnswer, isShareBy, sharesBy}
-use Rattle.verdicts.specs.Posted.{LinesOn, ShareOf}
+use Rattle.verdicts.specs.Posted.{LinesOn, encryptedOf, ShareOf}
 use Rattle.verdicts.specs.Gathered.{withShare}
 use Rattle.verdicts.specs.declared.GatheredShares.{GatheredShares}
 
@@ -79,15 +79,12 @@ module _ (S : Setting) (b : List ℕ) (d i : ℕ) (H : ShareOf b d i) (A : Gathe
       ∙ sym (pick-true (isShareBy judges S b d i) _ A (share-told judges S b d i H ∙ ap isValue (sym e ∙ ap elementOutcomeOf f)))
 
 -- ---- on a board with the dealer's accepted lines
-module _ {S : Setting} {b : List ℕ} {d : ℕ} {lines : List ℕ} (L : LinesOn S b d lines) where
+module _ {S : Setting} {b : List ℕ} {d : ℕ} (L : LinesOn S b d) where
   form : Met (formChecks (S .n) b)
   form = reached S b (L .reached) .form
 
   pub lines-sorted : Sorted b
   lines-sorted = sorted (S .n) b form
-
-  pub lines-length : length lines ≡ 32 * S .n
-  lines-length = ap length (L .part) ∙ lines-exact S b (L .proper) form d .size ∙ ap (λ (k : ℕ). 32 * k) (L .size)
 
   -- the run of his shares
   pub run-share : (i : ℕ) → placeOf b shareKind d 0 ≤ i → i < placeOf b shareKind d 32 → ShareOf b d i
@@ -137,12 +134,14 @@ module _ {S : Setting} {b : List ℕ} {d : ℕ} {lines : List ℕ} (L : LinesOn 
           let l : memberOf share ≤ S .n = omega (arith, a .1, m) in
           (h, l, keys-exact S b (L .reached) (memberOf share) h l .inside)
 
-      pub answered : {key line : Record} → key ≡ recordAt b (keyPlace b (memberOf share)) → line ≡ recordAt lines (memberOf share - 1)
-          → judgeShareFiguresIn shareTag S d (memberOf share) (yOf key) (YOf line) share ≡ shareAnswer judges S b d i
-      unfolding shareAnswer keyIn YIn recordAt
-      answered {key} {line} ek el =
+      pub answered : {key : Record} → key ≡ recordAt b (keyPlace b (memberOf share))
+          → {encrypted : List ℕ} → encrypted ≡ encryptedOf S b d
+          → judgeShareFiguresIn shareTag S d (memberOf share) (yOf key) (entry encrypted (memberOf share)) share ≡ shareAnswer judges S b d i
+      unfolding shareAnswer keyIn recordAt encryptedOf
+      answered {key} ek f =
           let m : memberOf share ≡ memberOf (recordAt b i) = ap (λ (r : Record). memberOf r) e in
           let y = ap (λ (r : Record). yOf r) (ek ∙ ap (λ (x : ℕ). recordAt b (keyPlace b x)) m) in
-          let Y = ap (λ (r : Record). YOf r) (el ∙ (λ j. recordAt (L .part j) (m j - 1))) in
+          let own = share-admitted .member in
+          let Y = (λ j. entry (f j) (m j)) ∙ member-entry (YIn (linesOf b d)) (S .n) (memberOf (recordAt b i)) (own .0) (own .1) in
           (λ j. judgeShareFiguresIn shareTag S d (m j) (y j) (Y j) (e j))
           ∙ figures-decide S d (memberOf (recordAt b i)) (keyIn b (memberOf (recordAt b i))) (YIn (linesOf b d) (memberOf (recordAt b i))) (take 32 (drop (32 * i) b)) share-admitted

@@ -16,7 +16,10 @@ use Rattle.sharing.specs.declared.CheckAnswer.{CheckAnswer}
 use Rattle.sharing.specs.declared.CheckAnswer.the-variants as answer-variants
 use Rattle.sharing.specs.declared.Setting.{Setting}
 use Rattle.records.proofs.Members.{members-exactly}
-use Rattle.dealing.specs.Dealing.{isLineFor, isLineOf, lineChecks, FormedDealing, lineFigureChecks, judgeDealingIn}
+use Rattle.dealing.specs.Dealing.{isLineFor, isLineOf, lineChecks, judgeDealingIn}
+use Rattle.dealing.specs.Columns.{columnsOf, columnChecks}
+use Rattle.dealing.specs.declared.Columns.{Columns}
+use Rattle.dealing.proofs.Settled.{FormedDealing}
 use Rattle.dealing.proofs.Judged.{figures-decide}
 use Rattle.board.specs.Search.{recordsIn}
 use Rattle.board.specs.Board.{boardChecks, keyIn, keysIn, lineCount, linesOf}
@@ -81,27 +84,25 @@ module _ (S : Setting) (b : List ℕ) (d : ℕ) (P : ProperSetting S) (m : Met (
             subst (λ (l : List ℕ). FormedDealing S d ys l) (sym e)
             (subst (λ (l : List ℕ). FormedDealing S d l (linesOf b d)) (sym y) (formed (counted ∙ n)))
 
-        abbrev judged : Outcome Unit
-        judged = outcome (lineFigureChecks S d ys lines) tt
-
-        answered : judged ≡ dealingAnswer judges S b d
-        answered = figures-decide S d ys lines lines-formed ∙ (λ i. judgeDealingIn S d (y i) (e i))
-
-        told : {o : Outcome Unit} → o ≡ judged → verdictFrom o (secretBy judges S b d) ≡ verdictOn judges S b d
+        told : {o : Outcome Unit} → o ≡ dealingAnswer judges S b d → verdictFrom o (secretBy judges S b d) ≡ verdictOn judges S b d
         unfolding verdictOn
         told j =
-            ap (λ (o : Outcome Unit). verdictFrom o (secretBy judges S b d)) (j ∙ answered)
+            ap (λ (o : Outcome Unit). verdictFrom o (secretBy judges S b d)) j
             ∙ sym
             (pick-false (eqb (lineCount b d) 0) _ _ some-lines
             ∙ pick-true (eqb (lineCount b d) (S .n)) _ _ (eq-eqb _ (S .n) (counted ∙ n)))
 
-        module _ {a : CheckAnswer} (j : checkOutcomeOf a ≡ judged) where
-          pub judge-refuses : {i : ℕ} → a ≡ answer-variants.Refused i → Refused i ≡ verdictOn judges S b d
-          judge-refuses r = told (ap checkOutcomeOf (sym r) ∙ j)
+        -- ---- by the judge's answer on the figures of his lines
+        module _ {figures : Columns} (f : figures ≡ columnsOf (S .n) lines) where
+          answered : outcome (columnChecks S d ys figures) tt ≡ dealingAnswer judges S b d
+          answered = figures-decide S d ys lines lines-formed f ∙ (λ i. judgeDealingIn S d (y i) (e i))
 
-          pub all-lines : a ≡ answer-variants.Passed → LinesOn S b d lines
-          all-lines r =
-              record { proper = P; reached = m; part = e; size = counted ∙ n; accepted = sym (ap checkOutcomeOf (sym r) ∙ j ∙ answered) }
+          module _ {a : CheckAnswer} (j : checkOutcomeOf a ≡ outcome (columnChecks S d ys figures) tt) where
+            pub judge-refuses : {i : ℕ} → a ≡ answer-variants.Refused i → Refused i ≡ verdictOn judges S b d
+            judge-refuses r = told (ap checkOutcomeOf (sym r) ∙ j ∙ answered)
 
-          pub dealing-accepted : a ≡ answer-variants.Passed → {s : Secret} → s ≡ secretBy judges S b d → Accepted s ≡ verdictOn judges S b d
-          dealing-accepted r f = ap Accepted f ∙ told (ap checkOutcomeOf (sym r) ∙ j)
+            pub all-lines : a ≡ answer-variants.Passed → LinesOn S b d
+            all-lines r = record { proper = P; reached = m; accepted = sym (ap checkOutcomeOf (sym r) ∙ j ∙ answered) }
+
+            pub dealing-accepted : a ≡ answer-variants.Passed → {s : Secret} → s ≡ secretBy judges S b d → Accepted s ≡ verdictOn judges S b d
+            dealing-accepted r h = ap Accepted h ∙ told (ap checkOutcomeOf (sym r) ∙ j ∙ answered)

@@ -2,16 +2,18 @@
 ghost use mathlib.Core.Path.{_≡_};
 ghost use Rattle.words.specs.Checks.{Met};
 ghost use Rattle.sharing.specs.Setting.{ProperSetting};
-ghost use Rattle.board.specs.Board.{keysIn, boardChecks};
-ghost use Rattle.verdicts.specs.Verdict.{judges, fromShares, isOpened, secretBy, verdictOn};
-ghost use Rattle.verdicts.specs.Posted.{LinesOn};
+ghost use Rattle.dealing.specs.Columns.{columnsOf};
+ghost use Rattle.board.specs.Board.{keysIn, boardChecks, linesOf};
+ghost use Rattle.verdicts.specs.Verdict.{judges, commitmentsOf, fromShares, isOpened, secretBy, verdictOn};
+ghost use Rattle.verdicts.specs.Posted.{LinesOn, encryptedOf};
 use crate::Secret;
 use crate::Verdict;
 use crate::shares::lowest_shares;
 use board::find_opening;
 use board::lines_of;
 use board::records;
-use dealing::judge_lines;
+use dealing::Columns;
+use dealing::judge_figures;
 use dealing::read_lines;
 use group::Exponent;
 use group::is_exponent;
@@ -22,12 +24,12 @@ use sharing::opens;
 use sharing::recovered_from;
 
 // The secret from the t lowest members with accepted shares, stuck where there are fewer.
-// Internal: callers ensure that these are the accepted lines of d on a board whose verdicts are reached.
-fn from_shares(s: Setting, b: &[u8], d: u32, lines: &[u8]) -> Secret
-    requires { ⌜ LinesOn s (now b) d (now lines) ⌝ }
+// Internal: callers ensure that verdicts are reached, that the lines of d are accepted, and that these are the encrypted shares in them.
+fn from_shares(s: Setting, b: &[u8], d: u32, encrypted: &[u32]) -> Secret
+    requires { ⌜ (LinesOn s (now b) d) × (now encrypted ≡ encryptedOf s (now b) d) ⌝ }
     ensures { λ r. ⌜ r ≡ fromShares judges s (now (b .entry)) d ⌝ }
 {
-    let found = lowest_shares(s, b, d, lines);
+    let found = lowest_shares(s, b, d, encrypted);
     let k = found.count;
     if k < s.t as usize {
         return Secret::Stuck;
@@ -38,9 +40,9 @@ fn from_shares(s: Setting, b: &[u8], d: u32, lines: &[u8]) -> Secret
 }
 
 // Whether the opening of the dealer d, where there is one, is right: below q, and it opens his commitments.
-// Internal: callers ensure that these are the accepted lines of d on a board whose verdicts are reached.
-fn is_opened(s: Setting, b: &[u8], d: u32, lines: &[u8]) -> bool
-    requires { ⌜ LinesOn s (now b) d (now lines) ⌝ }
+// Internal: callers ensure that verdicts are reached, that the lines of d are accepted, and that vs are the commitments in them.
+fn is_opened(s: Setting, b: &[u8], d: u32, vs: &[u32]) -> bool
+    requires { ⌜ (LinesOn s (now b) d) × (now vs ≡ commitmentsOf s (now b) d) ⌝ }
     ensures { λ r. ⌜ r ≡ isOpened s (now (b .entry)) d ⌝ }
 {
     let at = find_opening(b, d);
@@ -51,19 +53,20 @@ fn is_opened(s: Setting, b: &[u8], d: u32, lines: &[u8]) -> bool
     if !is_exponent(s.group, u) {
         return false;
     }
-    let n = s.n as usize;
-    let vs = read_lines(lines, n).vs;
-    opens(s, &vs[..n], u)
+    opens(s, vs, u)
 }
 
 // How the secret of an accepted dealing came: a right opening counts first.
-// Internal: callers ensure that these are the accepted lines of d on a board whose verdicts are reached.
-fn secret(s: Setting, b: &[u8], d: u32, lines: &[u8]) -> Secret
-    requires { ⌜ LinesOn s (now b) d (now lines) ⌝ }
+// Internal: callers ensure that verdicts are reached, that the lines of d are accepted, and that these are their figures.
+fn secret(s: Setting, b: &[u8], d: u32, figures: Columns) -> Secret
+    requires { ⌜ (LinesOn s (now b) d) × (figures ≡ columnsOf (s .n) (linesOf (now b) d)) ⌝ }
     ensures { λ r. ⌜ r ≡ secretBy judges s (now (b .entry)) d ⌝ }
 {
-    if !is_opened(s, b, d, lines) {
-        return from_shares(s, b, d, lines);
+    let n = s.n as usize;
+    let vs = figures.vs;
+    if !is_opened(s, b, d, &vs[..n]) {
+        let encrypted = figures.encrypted;
+        return from_shares(s, b, d, &encrypted[..n]);
     }
     let u = Exponent(record_at(b, find_opening(b, d)).w3);
     Secret::Opened(s.group.h.power(s.group, u))
@@ -76,16 +79,18 @@ pub(crate) fn verdict(s: Setting, ys: &[u32], b: &[u8], d: u32) -> Verdict
     requires { ⌜ (ProperSetting s) × (Met (boardChecks s (now b))) × (now ys ≡ keysIn (s .n) (now b)) ⌝ }
     ensures { λ r. ⌜ r ≡ verdictOn judges s (now (b .entry)) d ⌝ }
 {
+    let n = s.n as usize;
     let lines = lines_of(b, d);
     let count = records(lines);
     if count == 0 {
         return Verdict::None;
     }
-    if count != s.n as usize {
+    if count != n {
         return Verdict::Refused(12);
     }
-    match judge_lines(s, d, ys, lines) {
+    let figures = read_lines(lines, n);
+    match judge_figures(s, d, ys, figures) {
         CheckAnswer::Refused(k) => Verdict::Refused(k),
-        CheckAnswer::Passed => Verdict::Accepted(secret(s, b, d, lines)),
+        CheckAnswer::Passed => Verdict::Accepted(secret(s, b, d, figures)),
     }
 }

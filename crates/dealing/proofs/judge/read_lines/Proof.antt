@@ -9,6 +9,7 @@ use Rattle.sharing.specs.Setting.{members}
 use Rattle.records.proofs.Members.{members-next}
 use Rattle.dealing.proofs.Lines.{line-part}
 use Rattle.dealing.specs.Dealing.{vIn, YIn, rIn, cIn}
+use Rattle.dealing.specs.Columns.{columnsOf}
 use Rattle.dealing.proofs.judge.read_lines.Statement.{statement}
 use Rattle.dealing.proofs.judge.read_lines.Tie as tie
 
@@ -88,6 +89,7 @@ loop-again c =
     )
 
 returns : tie.Need-returns Inv-loop μ-loop
+unfolding columnsOf
 returns c =
     let o = c .before in
     let l = o .loop in

@@ -1,9 +1,10 @@
--- `accepted_share` meets its contract: a share's member is one of 1 to n, so his key and his line are there.
+-- `accepted_share` meets its contract: a share's member is one of 1 to n, so his key is there, and his encrypted share.
 use mathlib.Core.Path.{ap, _∙_}
 use native.Mathlib.Omega.{arith}
 use borrow.Author.Needs.{needs}
-use Rattle.records.specs.Layout.{recordAt}
-use Rattle.verdicts.proofs.ShareAnswers.{lines-sorted, lines-length, share-member, share-dealer, answered}
+use Rattle.records.specs.Layout.{entry, recordAt}
+use Rattle.verdicts.proofs.ShareAnswers.{lines-sorted, share-member, share-dealer, answered}
+use Rattle.verdicts.proofs.Secrets.{encrypted-count}
 use Rattle.verdicts.proofs.shares.accepted_share.Statement.{statement}
 use Rattle.verdicts.proofs.shares.accepted_share.Tie as tie
 
@@ -27,12 +28,15 @@ sub-at c =
     let w = r .before .before .before in
     omega (arith, share-member (w .pre .1) (w .pre .0) (r .record-at .ensures) .0)
 
-record-at-requires-3 : tie.Need-record-at-requires-3
-record-at-requires-3 c κs =
-    let r = c .before .before .before in
+mul-t10 : tie.Need-mul-t10
+mul-t10 c = search needs
+
+shared-slice-read-t12 : tie.Need-shared-slice-read-t12
+shared-slice-read-t12 c =
+    let r = c .before .before .before .before in
     let w = r .before .before .before in
     let m = share-member (w .pre .1) (w .pre .0) (r .record-at .ensures) in
-    omega (arith, m .0, m .1, lines-length (w .pre .1))
+    omega (arith, m .0, m .1, encrypted-count (w .args .s) (w .args .b .now) (w .args .d) (w .pre .2))
 
 judge-share-figures-requires : tie.Need-judge-share-figures-requires
 judge-share-figures-requires c κs =
@@ -41,14 +45,14 @@ judge-share-figures-requires c κs =
     (w .pre .1 .proper, share-dealer (w .pre .1) (w .pre .0), share-member (w .pre .1) (w .pre .0) (r .record-at .ensures) .1)
 
 returns : tie.Need-returns
+unfolding entry
 returns c =
-    let l = c .before in
-    let k = l .before .before in
+    let k = c .before .before .before in
     let f = k .before in
     let r = f .before in
     let w = r .before .before .before in
     c .judge-share-figures .ensures
-    ∙ answered (w .pre .1) (w .pre .0) (r .record-at .ensures) (k .record-at2 .ensures ∙ ap (recordAt (w .args .b .now)) (f .find-key .ensures)) (l .record-at3 .ensures)
+    ∙ answered (w .pre .1) (w .pre .0) (r .record-at .ensures) (k .record-at2 .ensures ∙ ap (recordAt (w .args .b .now)) (f .find-key .ensures)) (w .pre .2)
 
 pub accepted-share-spec : {M : Type 1} → statement M
 accepted-share-spec =
@@ -59,6 +63,7 @@ accepted-share-spec =
     record-at-requires-2
     cast-at
     sub-at
-    record-at-requires-3
+    mul-t10
+    shared-slice-read-t12
     judge-share-figures-requires
     returns)

@@ -15,31 +15,31 @@ use Rattle.verdicts.proofs.shares.lowest_shares.Statement.{statement}
 use Rattle.verdicts.proofs.shares.lowest_shares.Tie as tie
 
 abbrev Inv-loop : tie.InvT-loop
-Inv-loop s b d lines room end found₀ i₀ found i =
+Inv-loop s b d encrypted room end found₀ i₀ found i =
     (placeOf b shareKind d 0 ≤ i) × (i ≤ placeOf b shareKind d 32) × (s .t ≤ 31) × (found ≡ heldAt judges s b d (placeOf b shareKind d 0) (i - placeOf b shareKind d 0))
 
 abbrev μ-loop : tie.MeasureT-loop
-μ-loop s b d lines room end found₀ i₀ found i = end - i
+μ-loop s b d encrypted room end found₀ i₀ found i = end - i
 
 cast-room : tie.Need-cast-room Inv-loop μ-loop
 cast-room c = search needs
 
 place-of-requires : tie.Need-place-of-requires Inv-loop μ-loop
-place-of-requires c κs = lines-sorted (c .before .before .before .pre)
+place-of-requires c κs = lines-sorted (c .before .before .before .pre .0)
 
 place-of-requires-2 : tie.Need-place-of-requires-2 Inv-loop μ-loop
-place-of-requires-2 c κs = lines-sorted (c .before .before .before .before .pre)
+place-of-requires-2 c κs = lines-sorted (c .before .before .before .before .pre .0)
 
 loop-holds : tie.Need-loop-holds Inv-loop μ-loop
 loop-holds c =
     let w = c .before .before .before .before .before in
     let a = w .args in
-    let P = w .pre .proper in
+    let P = w .pre .0 .proper in
     let b = a .b .now in
     let s = c .place-of2 .ensures in
     let z : 0 ≡ c .place-of2 .result - placeOf b shareKind (a .d) 0 = omega (arith, s) in (
       omega (arith, s),
-      omega (arith, s, run-rises (lines-sorted (w .pre)) shareKind (a .d)),
+      omega (arith, s, run-rises (lines-sorted (w .pre .0)) shareKind (a .d)),
       omega (arith, P .t-most, P .n-most),
       held-none judges (a .s) b (a .d) (placeOf b shareKind (a .d) 0) ∙ ap (heldAt judges (a .s) b (a .d) (placeOf b shareKind (a .d) 0)) z,
     )
@@ -49,7 +49,7 @@ with-share-requires c κs =
     let l = c .before .before .before in
     let w = l .before .before .before .before .before .before in
     let e = l .before .before .place-of .ensures in
-    (run-share (w .pre) (l .loop .i) (l .loop .inv .0) (omega (arith, e, c .before .before .loop-test .taken)), w .pre, omega (arith, ltb-true (l .loop .found .count) (w .args .s .t) (c .if1 .taken), l .loop .inv .2))
+    (run-share (w .pre .0) (l .loop .i) (l .loop .inv .0) (omega (arith, e, c .before .before .loop-test .taken)), w .pre .0, w .pre .1, omega (arith, ltb-true (l .loop .found .count) (w .args .s .t) (c .if1 .taken), l .loop .inv .2))
 
 add-i : tie.Need-add-i Inv-loop μ-loop
 add-i c = search needs
@@ -80,7 +80,7 @@ returns c =
     let w = l .before .before .before .before .before .before in
     let b = w .args .b .now in
     let d = w .args .d in
-    held-full judges (w .args .s) b d (placeOf b shareKind d 0) (l .loop .i - placeOf b shareKind d 0) (l .loop .inv .3) (placeOf b shareKind d 32 - placeOf b shareKind d 0) (run-shares (w .pre) judges) (placeOf b shareKind d 32 - l .loop .i)
+    held-full judges (w .args .s) b d (placeOf b shareKind d 0) (l .loop .i - placeOf b shareKind d 0) (l .loop .inv .3) (placeOf b shareKind d 32 - placeOf b shareKind d 0) (run-shares (w .pre .0) judges) (placeOf b shareKind d 32 - l .loop .i)
     (omega (arith, l .loop .inv .0, l .loop .inv .1)) (ltb-false _ _ (c .if1 .left))
 
 returns-2 : tie.Need-returns-2 Inv-loop μ-loop
@@ -90,7 +90,7 @@ returns-2 c =
     let b = w .args .b .now in
     let d = w .args .d in
     let end : l .loop .i ≡ placeOf b shareKind d 32 = omega (arith, l .before .before .place-of .ensures, c .loop-test .left, l .loop .inv .1) in
-    held-all judges (w .args .s) b d (placeOf b shareKind d 0) (l .loop .i - placeOf b shareKind d 0) (l .loop .inv .3) (placeOf b shareKind d 32 - placeOf b shareKind d 0) (run-shares (w .pre) judges)
+    held-all judges (w .args .s) b d (placeOf b shareKind d 0) (l .loop .i - placeOf b shareKind d 0) (l .loop .inv .3) (placeOf b shareKind d 32 - placeOf b shareKind d 0) (run-shares (w .pre .0) judges)
     (ap (λ (x : ℕ). x - placeOf b shareKind d 0) end)
 
 pub lowest-shares-spec : {M : Type 1} → statement M

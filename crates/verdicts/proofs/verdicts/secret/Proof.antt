@@ -1,35 +1,70 @@
 -- `secret` meets its contract: a right opening lies on the board and counts, else the shares decide.
-use mathlib.Core.Path.{sym, ap, _∙_}
+use mathlib.Core.Path.{_≡_, sym, ap, _∙_}
 use native.Mathlib.Omega.{arith}
 use borrow.Author.Needs.{needs}
 use borrow.Author.Tests.{not-true, not-false}
+use lib.ListN.{length, take}
 use Rattle.words.specs.declared.Record.{Record}
 use Rattle.records.specs.Layout.{uOf, recordAt}
-use Rattle.verdicts.specs.Verdict.{judges}
+use Rattle.verdicts.specs.Verdict.{judges, commitmentsOf}
+use Rattle.verdicts.specs.Posted.{encryptedOf}
 use Rattle.verdicts.proofs.ShareAnswers.{lines-sorted}
-use Rattle.verdicts.proofs.Secrets.{opening-inside, secret-shares, secret-opened}
+use Rattle.verdicts.proofs.Secrets.{full-taken, commitments-are, encrypted-are, commitments-count, encrypted-count, opening-inside, secret-shares, secret-opened}
 use Rattle.verdicts.proofs.verdicts.secret.Statement.{statement}
 use Rattle.verdicts.proofs.verdicts.secret.Tie as tie
 
+cast-n : tie.Need-cast-n
+cast-n c = search needs
+
+-- ---- the first n places of two columns: the commitments and the encrypted shares of his lines
+commitments : (w : tie.Start) → take (w .args .s .n) (w .args .figures .vs) ≡ commitmentsOf (w .args .s) (w .args .b .now) (w .args .d)
+commitments w = commitments-are (w .args .s) (w .args .b .now) (w .args .d) (w .pre .1)
+
+encrypted : (w : tie.Start) → take (w .args .s .n) (w .args .figures .encrypted) ≡ encryptedOf (w .args .s) (w .args .b .now) (w .args .d)
+encrypted w = encrypted-are (w .args .s) (w .args .b .now) (w .args .d) (w .pre .1)
+
+commitments-size : (w : tie.Start) → length (take (w .args .s .n) (w .args .figures .vs)) ≡ w .args .s .n
+commitments-size w = commitments-count (w .args .s) (w .args .b .now) (w .args .d) (commitments w)
+
+encrypted-size : (w : tie.Start) → length (take (w .args .s .n) (w .args .figures .encrypted)) ≡ w .args .s .n
+encrypted-size w = encrypted-count (w .args .s) (w .args .b .now) (w .args .d) (encrypted w)
+
+array-share-prefix-vs : tie.Need-array-share-prefix-vs
+array-share-prefix-vs c = full-taken _ _ (commitments-size (c .before .before .before))
+
+slice-aggregate-is-opened : tie.Need-slice-aggregate-is-opened
+slice-aggregate-is-opened c = sym (commitments-size (c .before .before .before .before))
+
 is-opened-requires : tie.Need-is-opened-requires
-is-opened-requires c κs = search needs
+is-opened-requires c κs =
+    let w = c .before .before .before .before in
+    (w .pre .0, commitments w)
+
+array-share-prefix-encrypted : tie.Need-array-share-prefix-encrypted
+array-share-prefix-encrypted c = full-taken _ _ (encrypted-size (c .before .before .before .before .before .before .before))
+
+slice-aggregate-from-shares : tie.Need-slice-aggregate-from-shares
+slice-aggregate-from-shares c = sym (encrypted-size (c .before .before .before .before .before .before .before .before))
 
 from-shares-requires : tie.Need-from-shares-requires
-from-shares-requires c κs = search needs
+from-shares-requires c κs =
+    let w = c .before .before .before .before .before .before .before .before in
+    (w .pre .0, encrypted w)
 
 returns : tie.Need-returns
 returns c =
-    let o = c .before .before in
-    let a = o .before .before .before .args in
-    c .from-shares .ensures ∙ secret-shares (a .s) (a .b .now) (a .d) judges (sym (o .is-opened .ensures) ∙ not-true _ (c .before .if1 .taken))
+    let i = c .before .before .before in
+    let o = i .before in
+    let a = o .before .before .before .before .before .args in
+    c .from-shares .ensures ∙ secret-shares (a .s) (a .b .now) (a .d) judges (sym (o .is-opened .ensures) ∙ not-true _ (i .if1 .taken))
 
 find-opening-requires : tie.Need-find-opening-requires
-find-opening-requires c κs = lines-sorted (c .before .before .before .before .pre)
+find-opening-requires c κs = lines-sorted (c .before .before .before .before .before .before .pre .0)
 
 record-at-requires : tie.Need-record-at-requires
 record-at-requires c κs =
     let o = c .before .before in
-    let a = o .before .before .before .args in
+    let a = o .before .before .before .before .before .args in
     omega (
       arith,
       c .find-opening .ensures,
@@ -37,13 +72,13 @@ record-at-requires c κs =
     )
 
 power-requires : tie.Need-power-requires
-power-requires c κs = c .before .before .before .before .before .before .pre .proper .proper .prime-p .above-one
+power-requires c κs = c .before .before .before .before .before .before .before .before .pre .0 .proper .proper .prime-p .above-one
 
 returns-2 : tie.Need-returns-2
 returns-2 c =
     let f = c .before .before in
     let o = f .before .before in
-    let w = o .before .before .before in
+    let w = o .before .before .before .before .before in
     let b = w .args .b .now in
     secret-opened (w .args .s) b (w .args .d) judges (sym (o .is-opened .ensures) ∙ not-false _ (f .before .if1 .left)) (c .power .ensures)
     (ap (λ (r : Record). uOf r) (c .before .record-at .ensures ∙ ap (recordAt b) (f .find-opening .ensures)))
@@ -52,7 +87,12 @@ pub secret-spec : {M : Type 1} → statement M
 secret-spec =
     tie.close
     (tie.spec
+    cast-n
+    array-share-prefix-vs
+    slice-aggregate-is-opened
     is-opened-requires
+    array-share-prefix-encrypted
+    slice-aggregate-from-shares
     from-shares-requires
     returns
     find-opening-requires
