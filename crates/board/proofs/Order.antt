@@ -165,26 +165,26 @@ module _ (n : ℕ) (b : List ℕ) where
       ⊎-elim (λ w. subst (InForm n b) w (record-met i (s .0))) (λ w. records-met (suc i) m (s .1) x w (omega arith)) (eq-or-lt-of-le l)
 
   module _ (form : Met (formChecks n b)) where
-    each : (i : ℕ) → i < recordsIn b → InForm n b i
+    record-in-form : (i : ℕ) → i < recordsIn b → InForm n b i
     unfolding formChecks
-    each i h = records-met 0 (recordsIn b) (form .1) i (omega arith) (omega arith)
+    record-in-form i h = records-met 0 (recordsIn b) (form .1) i (omega arith) (omega arith)
 
     pub few-records : recordsIn b ≤ 2048
     unfolding formChecks
     few-records = leb-true _ _ (and-true (eqb (length b % 32) 0) _ (form .0) .1)
 
     pub shapes : (i : ℕ) → i < recordsIn b → Shaped n (recordAt b i)
-    shapes i h = shaped-true n (recordAt b i) (each i h .shaped)
+    shapes i h = shaped-true n (recordAt b i) (record-in-form i h .shaped)
 
     pub roundless : (i : ℕ) → i < recordsIn b → isRoundless (recordAt b i) ≡ true
-    roundless i h = each i h .roundless
+    roundless i h = record-in-form i h .roundless
 
     next-above : (i : ℕ) → suc i < recordsIn b → isAbove (recordAt b i) (recordAt b (suc i)) ≡ true
     next-above i h =
         let p : i ≡ suc i - 1 = omega arith in
         ap (λ (j : ℕ). isAbove (recordAt b j) (recordAt b (suc i))) p
         ∙ sym (pick-false (eqb (suc i) 0) true _ (ne-eqb (suc i) 0 (λ e. omega arith)))
-        ∙ each (suc i) h .ordered
+        ∙ record-in-form (suc i) h .ordered
 
     above : (i j : ℕ) → i < j → j < recordsIn b → isAbove (recordAt b i) (recordAt b j) ≡ true
     above i zero h l = absurd (not-suc-le-zero h)

@@ -95,7 +95,7 @@ fn form_refusal(s: Setting, d: u32, ys: &[u32], lines: &[u8]) -> u32
 // The figures of n lines. Internal: callers ensure that the bytes are n records, at most 31.
 pub fn read_lines(lines: &[u8], n: usize) -> Columns
     requires { ⌜ (n ≤ 31) × (length (now lines) ≡ 32 * n) ⌝ }
-    ensures { λ t. ⌜ t ≡ columnsOf n (now (lines .entry)) ⌝ }
+    ensures { λ r. ⌜ r ≡ columnsOf n (now (lines .entry)) ⌝ }
 {
     let mut vs = [0u32; 31];
     let mut encrypted = [0u32; 31];
@@ -133,22 +133,22 @@ fn own_check_passes(s: Setting, d: u32, vs: [u32; 31], encrypted: [u32; 31]) -> 
 }
 
 // The challenge that the figures give. Internal: callers ensure a proper setting, a dealer at most n, and n keys.
-fn recomputed(s: Setting, d: u32, ys: &[u32], t: Columns) -> Exponent
+fn recomputed(s: Setting, d: u32, ys: &[u32], figures: Columns) -> Exponent
     requires { ⌜ (ProperSetting s) × (d ≤ s .n) × (length (now ys) ≡ s .n) ⌝ }
-    ensures { λ r. ⌜ r .0 ≡ recomputed s d (now (ys .entry)) (entry (t .vs)) (entry (t .encrypted)) (entry (t .rs)) (entry (t .cs)) ⌝ }
+    ensures { λ r. ⌜ r .0 ≡ recomputed s d (now (ys .entry)) (entry (figures .vs)) (entry (figures .encrypted)) (entry (figures .rs)) (entry (figures .cs)) ⌝ }
 {
     let mut a1s = [0u32; 31];
     let mut a2s = [0u32; 31];
     let mut i = 0;
     while i < ys.len() {
-        let r = Exponent(t.rs[i]);
-        let c = Exponent(t.cs[i]);
-        a1s[i] = announced(s.group, s.group.g, Element(t.vs[i]), c, r).0;
-        a2s[i] = announced(s.group, Element(ys[i]), Element(t.encrypted[i]), c, r).0;
+        let r = Exponent(figures.rs[i]);
+        let c = Exponent(figures.cs[i]);
+        a1s[i] = announced(s.group, s.group.g, Element(figures.vs[i]), c, r).0;
+        a2s[i] = announced(s.group, Element(ys[i]), Element(figures.encrypted[i]), c, r).0;
         i += 1;
     }
-    let vs = t.vs;
-    let encrypted = t.encrypted;
+    let vs = figures.vs;
+    let encrypted = figures.encrypted;
     dealing_challenge(s, d, &vs, &encrypted, &a1s, &a2s)
 }
 
@@ -195,14 +195,14 @@ fn range_refusal(
 }
 
 // Judges figures: 6 for a v or Y, 7, 9 and 10. Internal: callers ensure a proper setting, a dealer at most n, and n keys.
-pub fn judge_figures(s: Setting, d: u32, ys: &[u32], t: Columns) -> CheckAnswer
+pub fn judge_figures(s: Setting, d: u32, ys: &[u32], figures: Columns) -> CheckAnswer
     requires { ⌜ (ProperSetting s) × (d ≤ s .n) × (length (now ys) ≡ s .n) ⌝ }
-    ensures { λ r. ⌜ checkOutcomeOf r ≡ outcome (columnChecks s d (now (ys .entry)) t) tt ⌝ }
+    ensures { λ r. ⌜ checkOutcomeOf r ≡ outcome (columnChecks s d (now (ys .entry)) figures) tt ⌝ }
 {
-    let vs = t.vs;
-    let encrypted = t.encrypted;
-    let rs = t.rs;
-    let cs = t.cs;
+    let vs = figures.vs;
+    let encrypted = figures.encrypted;
+    let rs = figures.rs;
+    let cs = figures.cs;
     let k = range_refusal(s, vs, encrypted, rs, cs);
     if k != 0 {
         return CheckAnswer::Refused(k);
@@ -210,7 +210,7 @@ pub fn judge_figures(s: Setting, d: u32, ys: &[u32], t: Columns) -> CheckAnswer
     if !own_check_passes(s, d, vs, encrypted) {
         return CheckAnswer::Refused(9);
     }
-    let c = recomputed(s, d, ys, t);
+    let c = recomputed(s, d, ys, figures);
     passed_if(all_equal(c, cs, s.n as usize), 10)
 }
 

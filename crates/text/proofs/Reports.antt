@@ -19,7 +19,8 @@ use Rattle.sharing.specs.declared.SettingAnswer.the-variants.{Value, Refused}
 use Rattle.sharing.proofs.Rounds.{judged-refused, judged-value}
 use Rattle.board.specs.Board.{boardChecks}
 use Rattle.verdicts.specs.Verdict.{Judges, verdictOn, verdictsOn}
-use Rattle.verdicts.specs.Draw.{drawChecks, drawOf, boardProduct, drawIn, placeFor, verdictPlaces, JudgementIn}
+use Rattle.verdicts.specs.Draw.{drawChecks, drawOf, boardProduct, drawIn, placeFor, verdictPlaces}
+use Rattle.verdicts.specs.Answered.{JudgementIn}
 use Rattle.verdicts.specs.declared.Verdict.{Verdict}
 use Rattle.verdicts.specs.declared.Verdict.the-variants.{None}
 use Rattle.verdicts.specs.declared.Judgement.{Judgement}

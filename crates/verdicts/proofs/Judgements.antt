@@ -17,7 +17,8 @@ use Rattle.sharing.specs.declared.SettingAnswer.the-variants.{Value, Refused}
 use Rattle.sharing.proofs.Rounds.{judged-refused, judged-value, judged-kept, judged-lent}
 use Rattle.board.specs.Board.{boardChecks}
 use Rattle.verdicts.specs.Verdict.{Judges, verdictOn, verdictsOn}
-use Rattle.verdicts.specs.Draw.{countAccepted, endChecks, drawChecks, drawOf, boardDrawChecks, boardProduct, drawOn, verdictPlaces, noVerdicts, refusedBoard, JudgementIn, JudgementOf}
+use Rattle.verdicts.specs.Draw.{countAccepted, endChecks, drawChecks, drawOf, boardDrawChecks, boardProduct, drawOn, verdictPlaces, noVerdicts, JudgementOf}
+use Rattle.verdicts.specs.Answered.{refusedBoard, JudgementIn}
 use Rattle.verdicts.specs.declared.DealerVerdict.{DealerVerdict}
 use Rattle.verdicts.specs.declared.Judgement.{Judgement}
 use Rattle.verdicts.proofs.Turns.{DealersAbove, all-verdicts, all-counted, all-stuck, all-secrets}

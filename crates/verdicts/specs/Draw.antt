@@ -11,7 +11,6 @@ use Rattle.words.specs.Checks.{Check, _unless_, Outcome, outcome}
 use Rattle.field.specs.Residue.{mul}
 use Rattle.group.specs.Answer.{elementOutcomeOf}
 use Rattle.group.specs.declared.Element.{Element}
-use Rattle.group.specs.declared.ElementAnswer.the-variants as answer-variants
 use Rattle.sharing.specs.Setting.{judged, judgedElse}
 use Rattle.sharing.specs.declared.Round.{Round}
 use Rattle.sharing.specs.declared.Setting.{Setting}
@@ -96,16 +95,6 @@ verdictPlaces w n = map (placeFor w n) (upFrom 1 31)
 -- no verdict
 abbrev pub noVerdicts : List DealerVerdict
 noVerdicts = replicate 31 (record { verdict = None })
-
--- the answer where a check before the verdicts refuses by k
-unfoldable pub refusedBoard : ℕ → Judgement
-refusedBoard k = record { verdicts = noVerdicts; accepted = 0; draw = answer-variants.Refused k }
-
--- where verdicts are reached
-pub record JudgementIn (J : Judges) (S : Setting) (b : List ℕ) (A : Judgement) : Type 0 where
-  pub verdicts : A .verdicts ≡ verdictPlaces (verdictOn J S b) (S .n)
-  pub accepted : A .accepted ≡ countAccepted (verdictsOn J S b)
-  pub draw : elementOutcomeOf (A .draw) ≡ drawOf (S .group .p) (S .t) (verdictsOn J S b)
 
 -- of every round and board: no verdict where a check before them refuses
 pub record JudgementOf (J : Judges) (R : Round) (b : List ℕ) (A : Judgement) : Type 0 where

@@ -3,3 +3,4 @@ pub mod Verdict
 pub mod Posted
 pub mod Gathered
 pub mod Draw
+pub mod Answered

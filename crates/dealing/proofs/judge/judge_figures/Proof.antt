@@ -18,12 +18,12 @@ use Rattle.dealing.proofs.judge.judge_figures.Tie as tie
 -- where the ranges do not refuse, the equations decide
 equations-decide : (c : tie.Else1)
     → let a = c .before .before .before .before .before .before .before .args in
-    let v = entry (a .t .vs) in let Y = entry (a .t .encrypted) in let r = entry (a .t .rs) in let h = entry (a .t .cs) in
+    let v = entry (a .figures .vs) in let Y = entry (a .figures .encrypted) in let r = entry (a .figures .rs) in let h = entry (a .figures .cs) in
     outcome (equationChecks (a .s) (a .d) (a .ys .now) v Y r h) (tt {0}) ≡ outcome (figureChecks (a .s) (a .d) (a .ys .now) v Y r h) tt
 unfolding rangeChecks
 equations-decide c =
     let a = c .before .before .before .before .before .before .before .args in
-    let v = entry (a .t .vs) in let Y = entry (a .t .encrypted) in let r = entry (a .t .rs) in let h = entry (a .t .cs) in
+    let v = entry (a .figures .vs) in let Y = entry (a .figures .encrypted) in let r = entry (a .figures .rs) in let h = entry (a .figures .cs) in
     let ranges = rangeChecks (a .s) v Y r h in
     rest-outcome ranges (equationChecks (a .s) (a .d) (a .ys .now) v Y r h) (stage-met ranges (c .before .range-refusal .ensures) refl (c .if1 .left)) tt
 
@@ -59,7 +59,7 @@ returns-3 c =
     let r = q .before .before in
     let o = r .before in
     let a = o .before .before .before .before .before .before .before .before .before .args in
-    let equal = q .all-equal .ensures ∙ ap (λ (x : ℕ). all (λ i. eqb (entry (a .t .cs) i) x) (members (a .s .n))) (r .recomputed .ensures) in
+    let equal = q .all-equal .ensures ∙ ap (λ (x : ℕ). all (λ i. eqb (entry (a .figures .cs) i) x) (members (a .s .n))) (r .recomputed .ensures) in
     c .passed-if .ensures
     ∙ ap (λ (b : Bool). pick {A = Outcome (Unit {0})} b (value tt) (refused 10)) equal
     ∙ sym (pick-true _ _ _ (passed (o .before .own-check-passes .ensures) (o .if2 .left)))

@@ -20,18 +20,18 @@ use Rattle.dealing.proofs.judge.recomputed.Tie as tie
 
 -- the announcements of member i
 abbrev firstOf : Group → Columns → ℕ → ℕ
-firstOf G t i = announced G (G .g .0) (entry (t .vs) i) (entry (t .cs) i) (entry (t .rs) i)
+firstOf G figures i = announced G (G .g .0) (entry (figures .vs) i) (entry (figures .cs) i) (entry (figures .rs) i)
 
 abbrev secondOf : Group → List ℕ → Columns → ℕ → ℕ
-secondOf G ys t i = announced G (entry ys i) (entry (t .encrypted) i) (entry (t .cs) i) (entry (t .rs) i)
+secondOf G ys figures i = announced G (entry ys i) (entry (figures .encrypted) i) (entry (figures .cs) i) (entry (figures .rs) i)
 
 abbrev Inv-loop : tie.InvT-loop
-Inv-loop s d ys t a1s₀ a2s₀ i₀ a1s a2s i =
+Inv-loop s d ys figures a1s₀ a2s₀ i₀ a1s a2s i =
     let is = members i in
-    (i ≤ length ys) × (length ys ≤ 31) × (a1s ≡ filled 31 (map (firstOf (s .group) t) is)) × (a2s ≡ filled 31 (map (secondOf (s .group) ys t) is))
+    (i ≤ length ys) × (length ys ≤ 31) × (a1s ≡ filled 31 (map (firstOf (s .group) figures) is)) × (a2s ≡ filled 31 (map (secondOf (s .group) ys figures) is))
 
 abbrev μ-loop : tie.MeasureT-loop
-μ-loop s d ys t a1s₀ a2s₀ i₀ a1s a2s i = length ys - i
+μ-loop s d ys figures a1s₀ a2s₀ i₀ a1s a2s i = length ys - i
 
 loop-holds : tie.Need-loop-holds Inv-loop μ-loop
 loop-holds c =

@@ -1,6 +1,6 @@
 -- `refused_board` meets its contract: it is the definition.
 use mathlib.Core.Path.{refl}
-use Rattle.verdicts.specs.Draw.{refusedBoard}
+use Rattle.verdicts.specs.Answered.{refusedBoard}
 use Rattle.verdicts.proofs.judge.refused_board.Statement.{statement}
 use Rattle.verdicts.proofs.judge.refused_board.Tie as tie
 
