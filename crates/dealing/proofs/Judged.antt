@@ -1,6 +1,6 @@
 -- A judged dealing: accepted exactly if its figures are proper and every equation holds, and where one fails refused by its number.
 -- What is accepted has commitments for which the judge's own check polynomial passes.
-use mathlib.Core.Path.{_≡_, refl, sym, ap, _∙_}
+use mathlib.Core.Path.{_≡_, refl, sym, _∙_}
 use mathlib.Core.Bool.{Bool, true, _&&_}
 use mathlib.Core.List.{List, _++_}
 use mathlib.Core.Logic.{inl, inr}
@@ -26,10 +26,7 @@ use Rattle.records.proofs.Members.{each-members, members-exactly, members-false
 use Rattle.challenge.specs.Message.{checkPolynomial}
 use Rattle.challenge.proofs.Challenges.{check-polynomial}
 use Rattle.dealing.specs.Dealing.{vIn, YIn, rIn, cIn, vsIn, isLineFor, isLineOf, lineChecks, dealingFormChecks, recomputed, rangeChecks, equationChecks, lineFigureChecks, judgeDealingChecks, judgeDealingIn}
-use Rattle.dealing.specs.Columns.{columnsOf, columnChecks}
-use Rattle.dealing.specs.declared.Columns.{Columns}
 use Rattle.dealing.specs.Claims.{Line, PostedDealing, AcceptedDealing, DealingExactly, EquationRefused, DealingRefused, AcceptedPasses, AcceptedUncarried}
-use Rattle.dealing.proofs.Entries.{columns-same}
 use Rattle.dealing.proofs.Settled.{FormedDealing, met-keys, keys-met, met-formed, formed-met}
 
 module _ (S : Setting) (d : ℕ) (ys b : List ℕ) where
@@ -168,11 +165,9 @@ dealing-refused = equations-refused
 
 -- the figures' stage decides what is formed, on a board too, whose form and keys are judged
 pub figures-decide : (S : Setting) (d : ℕ) (ys b : List ℕ) → FormedDealing S d ys b
-    → {t : Columns} → t ≡ columnsOf (S .n) b → outcome (columnChecks S d ys t) tt ≡ judgeDealingIn S d ys b
+    → outcome (lineFigureChecks S d ys b) tt ≡ judgeDealingIn S d ys b
 unfolding judgeDealingIn
-figures-decide S d ys b F e =
-    ap (λ (x : List Check). outcome x tt) (columns-same S d ys b e)
-    ∙ rest-outcome (dealingFormChecks S d ys b) (lineFigureChecks S d ys b) (formed-met S d ys b F) tt
+figures-decide S d ys b F = rest-outcome (dealingFormChecks S d ys b) (lineFigureChecks S d ys b) (formed-met S d ys b F) tt
 
 -- ---- what demand 3 has of it
 pub accepted-passes : AcceptedPasses

@@ -10,9 +10,11 @@ ghost use Rattle.sharing.specs.Setting.{ProperSetting, members};
 ghost use Rattle.sharing.specs.Answer.{checkOutcomeOf, degreeProduct};
 ghost use Rattle.records.specs.Layout.{entry};
 ghost use Rattle.challenge.specs.Message.{checkPolynomial};
-ghost use Rattle.dealing.specs.Dealing.{isLineFor, isLineOf, dealingFormChecks, recomputed, rangeChecks, judgeDealingIn, judgeDealingOutcome};
+ghost use Rattle.dealing.specs.Dealing.{isLineFor, isLineOf, dealingFormChecks, recomputed, rangeChecks, lineFigureChecks};
+ghost use Rattle.dealing.specs.Dealing.{judgeDealingIn, judgeDealingOutcome};
 ghost use Rattle.dealing.specs.Columns.{columnsOf, columnChecks};
 use crate::Columns;
+use crate::LinesAnswer;
 use challenge::check_polynomial;
 use challenge::dealing_challenge;
 use equality::announced;
@@ -93,7 +95,7 @@ fn form_refusal(s: Setting, d: u32, ys: &[u32], lines: &[u8]) -> u32
 }
 
 // The figures of n lines. Internal: callers ensure that the bytes are n records, at most 31.
-pub fn read_lines(lines: &[u8], n: usize) -> Columns
+fn read_lines(lines: &[u8], n: usize) -> Columns
     requires { ⌜ (n ≤ 31) × (length (now lines) ≡ 32 * n) ⌝ }
     ensures { λ r. ⌜ r ≡ columnsOf n (now (lines .entry)) ⌝ }
 {
@@ -195,7 +197,7 @@ fn range_refusal(
 }
 
 // Judges figures: 6 for a v or Y, 7, 9 and 10. Internal: callers ensure a proper setting, a dealer at most n, and n keys.
-pub fn judge_figures(s: Setting, d: u32, ys: &[u32], figures: Columns) -> CheckAnswer
+fn judge_figures(s: Setting, d: u32, ys: &[u32], figures: Columns) -> CheckAnswer
     requires { ⌜ (ProperSetting s) × (d ≤ s .n) × (length (now ys) ≡ s .n) ⌝ }
     ensures { λ r. ⌜ checkOutcomeOf r ≡ outcome (columnChecks s d (now (ys .entry)) figures) tt ⌝ }
 {
@@ -214,6 +216,18 @@ pub fn judge_figures(s: Setting, d: u32, ys: &[u32], figures: Columns) -> CheckA
     passed_if(all_equal(c, cs, s.n as usize), 10)
 }
 
+// Judges the lines of the dealer d by their figures, which are read once and handed back: 6 for a v or Y, 7, 9 and 10.
+// Internal: callers ensure a proper setting, a dealer at most n, n keys and n lines.
+pub fn judge_lines(s: Setting, d: u32, ys: &[u32], lines: &[u8]) -> LinesAnswer
+    requires { ⌜ (ProperSetting s) × (d ≤ s .n) × (length (now ys) ≡ s .n) × (length (now lines) ≡ 32 * s .n) ⌝ }
+    ensures { λ r. ⌜ checkOutcomeOf (r .answer) ≡ outcome (lineFigureChecks s d (now (ys .entry)) (now (lines .entry))) tt ⌝ }
+    ensures { λ r. ⌜ r .figures ≡ columnsOf (s .n) (now (lines .entry)) ⌝ }
+{
+    let figures = read_lines(lines, s.n as usize);
+    let answer = judge_figures(s, d, ys, figures);
+    LinesAnswer { answer, figures }
+}
+
 // Judges a dealing in a setting: 8, 3, 6, 4, 6, 7, 9 and 10. Internal: callers ensure that the setting is proper.
 pub fn judge_dealing_in(s: Setting, d: u32, ys: &[u32], lines: &[u8]) -> CheckAnswer
     requires { ⌜ ProperSetting s ⌝ }
@@ -223,7 +237,7 @@ pub fn judge_dealing_in(s: Setting, d: u32, ys: &[u32], lines: &[u8]) -> CheckAn
     if k != 0 {
         return CheckAnswer::Refused(k);
     }
-    judge_figures(s, d, ys, read_lines(lines, s.n as usize))
+    judge_lines(s, d, ys, lines).answer
 }
 
 // Judges the lines of the dealer d, with the keys ys. Refused: 1 and 2 as setting_of; 8 d is no member; 3 not n keys or not 32n

@@ -4,8 +4,8 @@ mod writer;
 
 pub use judge::judge_dealing;
 pub use judge::judge_dealing_in;
-pub use judge::judge_figures;
-pub use judge::read_lines;
+pub use judge::judge_lines;
+use sharing::CheckAnswer;
 pub use writer::write_dealing;
 pub use writer::write_dealing_in;
 
@@ -15,4 +15,10 @@ pub struct Columns {
     pub encrypted: [u32; 31],
     pub rs: [u32; 31],
     pub cs: [u32; 31],
+}
+
+// What the judge of a dealing's lines answers, with their figures beside it, which it has read.
+pub struct LinesAnswer {
+    pub answer: CheckAnswer,
+    pub figures: Columns,
 }

@@ -16,9 +16,7 @@ use Rattle.sharing.specs.declared.CheckAnswer.{CheckAnswer}
 use Rattle.sharing.specs.declared.CheckAnswer.the-variants as answer-variants
 use Rattle.sharing.specs.declared.Setting.{Setting}
 use Rattle.records.proofs.Members.{members-exactly}
-use Rattle.dealing.specs.Dealing.{isLineFor, isLineOf, lineChecks, judgeDealingIn}
-use Rattle.dealing.specs.Columns.{columnsOf, columnChecks}
-use Rattle.dealing.specs.declared.Columns.{Columns}
+use Rattle.dealing.specs.Dealing.{isLineFor, isLineOf, lineChecks, lineFigureChecks, judgeDealingIn}
 use Rattle.dealing.proofs.Settled.{FormedDealing}
 use Rattle.dealing.proofs.Judged.{figures-decide}
 use Rattle.board.specs.Search.{recordsIn}
@@ -93,16 +91,15 @@ module _ (S : Setting) (b : List ℕ) (d : ℕ) (P : ProperSetting S) (m : Met (
             ∙ pick-true (eqb (lineCount b d) (S .n)) _ _ (eq-eqb _ (S .n) (counted ∙ n)))
 
         -- ---- by the judge's answer on the figures of his lines
-        module _ {figures : Columns} (f : figures ≡ columnsOf (S .n) lines) where
-          answered : outcome (columnChecks S d ys figures) tt ≡ dealingAnswer judges S b d
-          answered = figures-decide S d ys lines lines-formed f ∙ (λ i. judgeDealingIn S d (y i) (e i))
+        decided : outcome (lineFigureChecks S d ys lines) tt ≡ dealingAnswer judges S b d
+        decided = figures-decide S d ys lines lines-formed ∙ (λ i. judgeDealingIn S d (y i) (e i))
 
-          module _ {a : CheckAnswer} (j : checkOutcomeOf a ≡ outcome (columnChecks S d ys figures) tt) where
-            pub judge-refuses : {i : ℕ} → a ≡ answer-variants.Refused i → Refused i ≡ verdictOn judges S b d
-            judge-refuses r = told (ap checkOutcomeOf (sym r) ∙ j ∙ answered)
+        module _ {a : CheckAnswer} (j : checkOutcomeOf a ≡ outcome (lineFigureChecks S d ys lines) tt) where
+          pub judge-refuses : {i : ℕ} → a ≡ answer-variants.Refused i → Refused i ≡ verdictOn judges S b d
+          judge-refuses r = told (ap checkOutcomeOf (sym r) ∙ j ∙ decided)
 
-            pub all-lines : a ≡ answer-variants.Passed → LinesOn S b d
-            all-lines r = record { proper = P; reached = m; accepted = sym (ap checkOutcomeOf (sym r) ∙ j ∙ answered) }
+          pub all-lines : a ≡ answer-variants.Passed → LinesOn S b d
+          all-lines r = record { proper = P; reached = m; accepted = sym (ap checkOutcomeOf (sym r) ∙ j ∙ decided) }
 
-            pub dealing-accepted : a ≡ answer-variants.Passed → {s : Secret} → s ≡ secretBy judges S b d → Accepted s ≡ verdictOn judges S b d
-            dealing-accepted r h = ap Accepted h ∙ told (ap checkOutcomeOf (sym r) ∙ j ∙ answered)
+          pub dealing-accepted : a ≡ answer-variants.Passed → {s : Secret} → s ≡ secretBy judges S b d → Accepted s ≡ verdictOn judges S b d
+          dealing-accepted r h = ap Accepted h ∙ told (ap checkOutcomeOf (sym r) ∙ j ∙ decided)

@@ -13,8 +13,7 @@ use board::find_opening;
 use board::lines_of;
 use board::records;
 use dealing::Columns;
-use dealing::judge_figures;
-use dealing::read_lines;
+use dealing::judge_lines;
 use group::Exponent;
 use group::is_exponent;
 use records::record_at;
@@ -79,17 +78,18 @@ pub(crate) fn verdict(s: Setting, ys: &[u32], b: &[u8], d: u32) -> Verdict
     requires { ⌜ (ProperSetting s) × (Met (boardChecks s (now b))) × (now ys ≡ keysIn (s .n) (now b)) ⌝ }
     ensures { λ r. ⌜ r ≡ verdictOn judges s (now (b .entry)) d ⌝ }
 {
-    let n = s.n as usize;
     let lines = lines_of(b, d);
     let count = records(lines);
     if count == 0 {
         return Verdict::None;
     }
-    if count != n {
+    if count != s.n as usize {
         return Verdict::Refused(12);
     }
-    let figures = read_lines(lines, n);
-    match judge_figures(s, d, ys, figures) {
+    let judged = judge_lines(s, d, ys, lines);
+    let answer = judged.answer;
+    let figures = judged.figures;
+    match answer {
         CheckAnswer::Refused(k) => Verdict::Refused(k),
         CheckAnswer::Passed => Verdict::Accepted(secret(s, b, d, figures)),
     }

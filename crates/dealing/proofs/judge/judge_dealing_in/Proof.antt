@@ -19,20 +19,13 @@ returns c = stage-refused (dealingFormChecks _ _ _ _) (c .before .form-refusal .
 formed : (c : tie.Else1) → let a = c .before .before .before .before .args in FormedDealing (a .s) (a .d) (a .ys .now) (a .lines .now)
 formed c = met-formed _ _ _ _ (form-none _ _ _ _ (c .before .form-refusal .ensures) (c .if1 .left))
 
-cast-read-lines : tie.Need-cast-read-lines
-cast-read-lines c = search needs
-
-read-lines-requires : tie.Need-read-lines-requires
-read-lines-requires c κs = (c .before .before .before .before .before .pre .n-most, formed (c .before) .size)
-
-judge-figures-requires : tie.Need-judge-figures-requires
-judge-figures-requires c κs =
-    let F = formed (c .before .before) in
-    (c .before .before .before .before .before .before .pre, F .dealer .1, F .keys-size)
+judge-lines-requires : tie.Need-judge-lines-requires
+judge-lines-requires c κs =
+    let F = formed c in
+    (c .before .before .before .before .pre, F .dealer .1, F .keys-size, F .size)
 
 returns-2 : tie.Need-returns-2
-returns-2 c = c .judge-figures .ensures ∙ figures-decide _ _ _ _ (formed (c .before .before .before)) (c .before .read-lines .ensures)
+returns-2 c = c .judge-lines .ensures .0 ∙ figures-decide _ _ _ _ (formed (c .before))
 
 pub judge-dealing-in-spec : {M : Type 1} → statement M
-judge-dealing-in-spec =
-    tie.close (tie.spec form-refusal-requires returns cast-read-lines read-lines-requires judge-figures-requires returns-2)
+judge-dealing-in-spec = tie.close (tie.spec form-refusal-requires returns judge-lines-requires returns-2)
