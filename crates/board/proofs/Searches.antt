@@ -7,10 +7,9 @@ use Prim.Native.Nat.{ℕ, zero, suc, _+_, _-_, _<_, _≤_}
 use native.Mathlib.Nat.{eq-or-lt-of-le}
 use native.Mathlib.Decide.{decLe}
 use native.Mathlib.Omega.{arith}
-use lib.ListN.{take}
 use Rattle.words.specs.Choice.{pick}
-use Rattle.words.specs.Lists.{All, Distinct, map, upFrom}
-use Rattle.words.proofs.Lists.{All-to, All-take, map-all, up-within}
+use Rattle.words.specs.Lists.{All, map, upFrom}
+use Rattle.words.proofs.Lists.{All-to, map-all, up-within}
 use Rattle.words.proofs.Tests.{false-true, pick-false}
 use Rattle.board.specs.Search.{first, filter, Ascending}
 
@@ -114,15 +113,6 @@ filter-ascending f g i (suc m) h = by-test (f i) refl (filter-ascending f g (suc
     by-test true e r =
         (map-all g (λ y. g i < y) rest (All-to rest (λ x s. h i x (s .0 .0) (omega (arith, s .0 .1)) e (s .1)) (filter-up f (suc i) m)), r)
     by-test false e r = r
-
-pub take-ascending : (k : ℕ) (xs : List ℕ) → Ascending xs → Ascending (take k xs)
-take-ascending zero xs h = tt
-take-ascending (suc k) [] h = tt
-take-ascending (suc k) (x ∷ xs) h = (All-take (λ y. x < y) k xs (h .0), take-ascending k xs (h .1))
-
-pub ascending-distinct : (xs : List ℕ) → Ascending xs → Distinct xs
-ascending-distinct [] h = tt
-ascending-distinct (x ∷ xs) h = (All-to xs (λ y l e. omega arith) (h .0), ascending-distinct xs (h .1))
 
 -- ---- n numbers from 1 to n that ascend are 1 to n
 module _ (a : ℕ → ℕ) (n : ℕ) (up : (k : ℕ) → suc k < n → a k < a (suc k)) where

@@ -4,7 +4,7 @@ use mathlib.Core.List.{List, [], _∷_}
 use Prim.Native.Nat.{ℕ, zero, suc, _<_, _/_}
 use lib.ListN.{length}
 use Rattle.words.specs.Choice.{pick}
-use Rattle.words.specs.Lists.{All}
+use Rattle.words.specs.Lists.{Pairwise}
 
 -- the first of m numbers from i on that passes the test, i + m where there is none
 abbrev pub first : (ℕ → Bool) → ℕ → ℕ → ℕ
@@ -18,8 +18,7 @@ filter f (x ∷ xs) = pick (f x) (x ∷ filter f xs) (filter f xs)
 
 -- each number is below all that follow it
 abbrev pub Ascending : List ℕ → Type 0
-Ascending [] = Unit {0}
-Ascending (x ∷ xs) = All (λ y. x < y) xs × Ascending xs
+Ascending xs = Pairwise (λ x y. x < y) xs
 
 -- the number of records
 abbrev pub recordsIn : List ℕ → ℕ

@@ -10,7 +10,7 @@ use lib.ListN.{length, take}
 use lib.Seq.{length-take-le}
 use Rattle.words.specs.Lists.{All, map}
 use Rattle.words.specs.Checks.{value, Met}
-use Rattle.words.proofs.Lists.{All-to, All-take, map-length, map-all, map-same, map-comp, take-map}
+use Rattle.words.proofs.Lists.{All-to, All-take, Pairwise-to, Pairwise-take, map-length, map-all, map-same, map-comp, take-map}
 use Rattle.words.proofs.Stages.{front-outcome}
 use Rattle.field.specs.Polynomial.{valueAt}
 use Rattle.group.specs.declared.Group.{Group}
@@ -24,7 +24,7 @@ use Rattle.sharing.proofs.Theorems.{opening-exactly, secret-of-commitments}
 use Rattle.records.specs.Layout.{memberOf, uOf, ZOf, recordAt}
 use Rattle.records.proofs.Members.{each-members}
 use Rattle.board.specs.Search.{Ascending, recordsIn}
-use Rattle.board.proofs.Searches.{filter-all, filter-up, filter-same, take-ascending, ascending-distinct}
+use Rattle.board.proofs.Searches.{filter-all, filter-up, filter-same}
 use Rattle.board.proofs.Order.{Reached, reached, shapes}
 use Rattle.verdicts.specs.Verdict.{Judges, isAccepted, commitmentsOf, isShareBy, sharesBy, secretBy}
 use Rattle.verdicts.specs.Draw.{secretValue, boardDrawChecks, boardProduct, drawIn, drawOn}
@@ -59,9 +59,9 @@ module _ {J : Judges} {S : Setting} (P : ProperSetting S) {b : List ℕ} (F : Re
             (λ i s. let z = shapes (S .n) b (F .form) i (s .0) in (z .share (share-address J S b d i (s .1) .0) .2, z .member))
             serving-shares);
         distinct =
-            ascending-distinct (map memberIn serving)
+            Pairwise-to (map memberIn serving) (λ x y l e. omega arith)
             (subst Ascending (take-map memberIn (S .t) (sharesBy J S b d))
-            (take-ascending (S .t) (map memberIn (sharesBy J S b d)) (shares-ascend J F d)));
+            (Pairwise-take (λ (x y : ℕ). x < y) (S .t) (map memberIn (sharesBy J S b d)) (shares-ascend J F d)));
         enough = omega (arith, map-length memberIn serving, length-take-le (S .t) (sharesBy J S b d) l);
       }
 

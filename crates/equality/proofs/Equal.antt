@@ -4,21 +4,18 @@ use mathlib.Core.Bool.{true}
 use mathlib.Core.List.{List, [], _∷_}
 use Prim.Native.Nat.{ℕ, _<_}
 use native.Mathlib.Omega.{arith}
-use Rattle.words.specs.Checks.{Check, _unless_, value, refused}
+use Rattle.words.specs.Checks.{value}
 use Rattle.words.proofs.Tests.{equal-true, true-equal, all-true, true-all}
-use Rattle.words.proofs.Checks.{value-met, value-exactly}
-use Rattle.words.proofs.Stages.{rest-outcome, given-refused, given-value}
+use Rattle.words.proofs.Checks.{value-exactly}
 use Rattle.field.specs.Residue.{add, mul, neg, sub}
 use Rattle.field.proofs.Modular.{add-comm, add-assoc, add-neg, mul-comm, mul-one, sub-add-neg, sub-below}
 use Rattle.group.specs.Power.{pow}
-use Rattle.group.specs.Table.{isGroup, groupOf, groupOutcomeOf, groupOutcome}
 use Rattle.group.specs.Element.{isElement, isExponent, Proper}
 use Rattle.group.specs.declared.Group.{Group}
-use Rattle.group.specs.declared.GroupAnswer.{GroupAnswer}
-use Rattle.group.specs.declared.GroupAnswer.the-variants.{Value, Refused}
 use Rattle.group.proofs.Powers.{pow-below, pow-none}
 use Rattle.group.proofs.Elements.{exponent-true, true-exponent, power-element, power-of-sum, power-of-product}
 use Rattle.group.proofs.Table.{table-proper}
+use Rattle.group.proofs.Answers.{in-group-exactly}
 use Rattle.equality.specs.Equality.{announced, response, equalityChecks, equalityIn, equalityOutcome}
 use Rattle.equality.specs.Claims.{Holds, EqualityExactly, EqualityComplete, EqualityByNumber, proofOf}
 use Rattle.equality.specs.declared.Equality.{Equality}
@@ -91,32 +88,8 @@ equality-complete G P b1 b2 e w c m1 m2 l =
       second = sym (announced-back G P b2 w c e m2);
     })
 
--- ---- by number
-abbrev groupChecks : ℕ → List Check
-groupChecks k = 1 unless isGroup k ∷ []
-
-module _ (k : ℕ) (E : Equality) where
-  accepted-group : equalityOutcome k E ≡ value tt → (isGroup k ≡ true) × Proper (groupOf k) × (equalityIn (groupOf k) E ≡ value tt)
-  unfolding equalityOutcome equalityIn
-  accepted-group e =
-      let g = value-met (1 unless isGroup k ∷ equalityChecks (groupOf k) E) tt tt e .0 .0 in
-      (g, table-proper k g, rest-outcome (groupChecks k) (equalityChecks (groupOf k) E) (g, tt) tt ∙ e)
-
-  group-accepted : isGroup k ≡ true → equalityIn (groupOf k) E ≡ value tt → equalityOutcome k E ≡ value tt
-  unfolding equalityOutcome equalityIn
-  group-accepted g e = sym (rest-outcome (groupChecks k) (equalityChecks (groupOf k) E) (g, tt) tt) ∙ e
-
 pub equality-by-number : EqualityByNumber
-equality-by-number k E = (accepted-group k E, λ w. group-accepted k E (w .0) (w .2))
-
--- the same by the answer a of the function that looks the group up
-module _ (k : ℕ) (E : Equality) {a : GroupAnswer} (o : groupOutcomeOf a ≡ groupOutcome k) where
-  pub number-refused : {n : ℕ} → a ≡ Refused n → refused n ≡ equalityOutcome k E
-  unfolding equalityOutcome
-  number-refused f =
-      given-refused (groupChecks k) (groupOf k) (λ G. equalityChecks G E) {A = Unit} (λ G. tt) (sym o ∙ ap groupOutcomeOf f)
-
-  pub number-value : {G : Group} → a ≡ Value G → equalityIn G E ≡ equalityOutcome k E
-  unfolding equalityOutcome equalityIn
-  number-value f =
-      given-value (groupChecks k) (groupOf k) (λ G. equalityChecks G E) {A = Unit} (λ G. tt) (sym o ∙ ap groupOutcomeOf f)
+unfolding equalityOutcome equalityIn
+equality-by-number k E =
+    let by = in-group-exactly {A = Unit} k (λ G. equalityChecks G E) (λ G. tt) tt in
+    (λ e. let w = by .0 e in (w .0, table-proper k (w .0), w .1), λ w. by .1 (w .0, w .2))

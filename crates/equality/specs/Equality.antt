@@ -7,7 +7,7 @@ use Rattle.words.specs.Lists.{all}
 use Rattle.words.specs.Checks.{Check, _unless_, Outcome, outcome}
 use Rattle.field.specs.Residue.{mul, sub}
 use Rattle.group.specs.Power.{pow}
-use Rattle.group.specs.Table.{isGroup, groupOf}
+use Rattle.group.specs.Table.{inGroup}
 use Rattle.group.specs.Element.{isElement, isExponent}
 use Rattle.group.specs.declared.Group.{Group}
 use Rattle.equality.specs.declared.Equality.{Equality}
@@ -40,4 +40,4 @@ equalityIn G E = outcome (equalityChecks G E) tt
 
 -- in the group of number k
 unfoldable pub equalityOutcome : ℕ → Equality → Outcome (Unit {0})
-equalityOutcome k E = outcome (1 unless isGroup k ∷ equalityChecks (groupOf k) E) tt
+equalityOutcome k E = inGroup k (λ G. equalityChecks G E) (λ G. tt)

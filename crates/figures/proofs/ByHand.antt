@@ -4,7 +4,7 @@ use mathlib.Core.Bool.{Bool, true, false, _&&_}
 use Prim.Native.Nat.{ℕ}
 use Rattle.field.specs.Residue.{add, mul, sub, inv}
 use Rattle.group.specs.Power.{pow}
-use Rattle.group.specs.Table.{isGroup, groupOf}
+use Rattle.group.specs.Table.{isGroup, groupOf, inGroup}
 use Rattle.group.specs.Element.{isElement, isExponent}
 use Rattle.group.specs.declared.Group.{Group}
 use Rattle.group.proofs.Powers.{one-power}
@@ -37,7 +37,7 @@ one-no-key G = and-false (isElement G 1)
     and-false false = refl
 
 pub by-hand : ByHand
-unfolding add mul sub inv pow isGroup groupOf isElement isExponent inRange roundChecks judged isMember gapsAt weightAt weightsOf lagrangeAt powersProduct degreeProduct degreeFigures degreeEquation degreeIn recovered isQuorum recoveryIn isOpening openingFigures openingEquation openingIn openingOutcome powersAt entry announced response equalityOutcome writtenV writtenY writtenR
+unfolding add mul sub inv pow isGroup groupOf inGroup isElement isExponent inRange roundChecks judged isMember gapsAt weightAt weightsOf lagrangeAt powersProduct degreeProduct degreeFigures degreeEquation degreeIn recovered isQuorum recoveryIn isOpening openingFigures openingEquation openingIn openingOutcome powersAt entry announced response equalityOutcome writtenV writtenY writtenR
 by-hand =
     record {
       over-round = round-by-setting smallRound (carried-figures .0);

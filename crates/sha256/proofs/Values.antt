@@ -1,8 +1,8 @@
 -- The words of a hash value and the bytes of a digest, and what each answer of `digest` tells.
-use mathlib.Core.Path.{_≡_, sym, ap}
+use mathlib.Core.Path.{_≡_, sym, ap, _∙_}
 use mathlib.Core.List.{List, [], _∷_}
 use mathlib.Core.Logic.{⊎-elim}
-use Prim.Native.Nat.{ℕ, suc, _+_, _/_, _^_}
+use Prim.Native.Nat.{ℕ, suc, _+_, _/_, _^_, _≤_}
 use native.Mathlib.Omega.{arith}
 use borrow.Author.Tests.{le-leb, lt-leb, leb-true, leb-false}
 use lib.ListN.{length}
@@ -15,7 +15,9 @@ use Rattle.words.specs.declared.Record.{Record}
 use Rattle.sha256.specs.declared.state.State.{State}
 use Rattle.sha256.specs.Padding.{pad, blocks}
 use Rattle.sha256.specs.Hash.{plus, compress, intermediate, stateRecord, hashValue, hash}
-use Rattle.sha256.specs.Answer.{digestChecks}
+use Rattle.sha256.specs.Answer.{digestChecks, outcomeOf, digestOutcome}
+use Rattle.sha256.specs.declared.DigestAnswer.{DigestAnswer}
+use Rattle.sha256.specs.declared.DigestAnswer.the-variants.{Value, Refused}
 use Rattle.sha256.specs.Claims.{HashWords, HashBytes, DigestValue, DigestRefused}
 use Rattle.sha256.proofs.Padded.{pad-blocks}
 
@@ -51,3 +53,11 @@ digest-refused m k = (
   (λ e. ⊎-elim (λ w. (leb-false _ _ (w .0), sym (w .1))) (λ w. absurd (w .1)) (refused-exactly Record (digestChecks m) (hashValue m) k .0 e)),
   λ h. rw (lt-leb _ _ (h .0)) (ap refused (sym (h .1))),
 )
+
+-- ---- by the answer a of the function
+module _ (m : List ℕ) {a : DigestAnswer} (o : outcomeOf a ≡ digestOutcome m) where
+  pub answer-value : {r : Record} → a ≡ Value r → hashValue m ≡ r
+  answer-value {r} f = digest-value m r .0 (sym o ∙ ap outcomeOf f) .1
+
+  pub never-refused : {k : ℕ} → length m ≤ 65536 → a ≡ Refused k → ⊥
+  never-refused {k} h f = omega (arith, digest-refused m k .0 (sym o ∙ ap outcomeOf f) .0)

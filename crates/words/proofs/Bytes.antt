@@ -9,7 +9,7 @@ use borrow.Rule.Slice.PartMut.{putMid}
 use lib.ListN.{length, getD, take, drop, set, length-append, length-drop, take-append-drop, List·getD-append}
 use lib.Seq.{length-take-le, sets-eq, take-at, take-all, drop-length, drop-cons, drop-drop, drop-append-add, getD-append-add}
 use Rattle.words.specs.Lists.{Below}
-use Rattle.words.specs.Bytes.{word, wordAt, wordBytes, wordsBytes, putAt, recordWords, recordBytes, recordIn}
+use Rattle.words.specs.Bytes.{word, wordAt, wordBytes, wordsBytes, bigEndian, putAt, recordWords, recordBytes, recordIn}
 use Rattle.words.specs.Claims.{ReadBack, WriteBack}
 use Rattle.words.specs.declared.Record.{Record}
 
@@ -53,6 +53,11 @@ byte-low : (b : List ℕ) (k : ℕ) → Below 256 b → getD b k 0 < 256
 byte-low [] k h = omega arith
 byte-low (x ∷ b) zero h = h .0
 byte-low (x ∷ b) (suc k) h = byte-low b k (h .1)
+
+-- the number of a word's four bytes, behind the number a
+pub word-number : (a w : ℕ) → w < 2 ^ 32 → bigEndian a (wordBytes w) ≡ a * 4294967296 + w
+unfolding wordBytes
+word-number a w h = let t : w / 16777216 < 256 = omega arith in omega (arith, mod-eq-of-lt t)
 
 -- ---- a word that is written
 pub word-back : (w : ℕ) (rest : List ℕ) → w < 2 ^ 32 → wordAt (wordBytes w ++ rest) 0 ≡ w

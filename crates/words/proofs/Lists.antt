@@ -7,9 +7,9 @@ use native.Mathlib.Numerals.{add-one}
 use native.Mathlib.Omega.{arith}
 use lib.ListN.{length, getD, take, drop, set, replicate, length-append}
 use lib.Seq.{drop-cons, take-take, take-at, set-at, append-snoc}
-use Rattle.words.specs.Lists.{All, Distinct, map, upFrom, filled}
+use Rattle.words.specs.Lists.{All, Pairwise, Distinct, map, upFrom, filled}
 
--- ---- facts of every element
+-- ---- facts of every element, and of every pair
 module _ {A : Type 0} where
   pub All-each : {P : A → Type 0} (xs : List A) → ((x : A) → P x) → All P xs
   All-each [] h = tt
@@ -40,6 +40,15 @@ module _ {A : Type 0} where
   All-take P zero xs a = tt
   All-take P (suc k) [] a = tt
   All-take P (suc k) (x ∷ xs) a = (a .0, All-take P k xs (a .1))
+
+  pub Pairwise-to : {R Q : A → A → Type 0} (xs : List A) → ((x y : A) → R x y → Q x y) → Pairwise R xs → Pairwise Q xs
+  Pairwise-to [] h p = tt
+  Pairwise-to (x ∷ xs) h p = (All-to xs (h x) (p .0), Pairwise-to xs h (p .1))
+
+  pub Pairwise-take : (R : A → A → Type 0) (k : ℕ) (xs : List A) → Pairwise R xs → Pairwise R (take k xs)
+  Pairwise-take R zero xs p = tt
+  Pairwise-take R (suc k) [] p = tt
+  Pairwise-take R (suc k) (x ∷ xs) p = (All-take (R x) k xs (p .0), Pairwise-take R k xs (p .1))
 
 -- ---- a part of a part
 pub part-part : {A : Type 0} (m k n : ℕ) (xs : List A) → k + m ≤ n → take m (drop k (take n xs)) ≡ take m (drop k xs)

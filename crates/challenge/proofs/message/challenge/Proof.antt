@@ -6,7 +6,8 @@ use native.Mathlib.Omega.{arith}
 use borrow.Author.Needs.{needs}
 use lib.ListN.{length, take}
 use lib.Seq.{length-take-le}
-use Rattle.challenge.proofs.Digests.{exponent-value, never-refused}
+use Rattle.sha256.proofs.Values.{never-refused}
+use Rattle.challenge.proofs.Digests.{exponent-value}
 use Rattle.challenge.proofs.message.challenge.Statement.{statement}
 use Rattle.challenge.proofs.message.challenge.Tie as tie
 
@@ -29,7 +30,7 @@ returns c =
     let s = c .before .before .before .before .before in
     let m = take (s .args .k) (s .args .m .now) in
     let short : length m ≤ 65536 = omega (arith, length-take-le (s .args .k) (s .args .m .now) (s .pre .1), s .pre .2) in
-    absurd (never-refused (s .args .q) m (c .before .before .digest .ensures) short (c .enum-told .given .1))
+    absurd (never-refused m (c .before .before .digest .ensures) short (c .enum-told .given .1))
 
 cast-first : tie.Need-cast-first
 cast-first c = search needs
