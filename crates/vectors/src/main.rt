@@ -12,6 +12,7 @@ mod judge_share;
 mod lines;
 mod opening;
 mod payload;
+mod pick_plots;
 mod power;
 mod print;
 mod recovery;
@@ -45,6 +46,7 @@ fn run(case: Record, space: &mut [u8], base: &mut [u8; 65568]) {
         10 => judge_share::run(case, space),
         11..=13 => boards::run(case, space, base),
         14 => boards::load(case, space, base),
+        15 => pick_plots::run(case),
         _ => print::no_case(),
     }
 }

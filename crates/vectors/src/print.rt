@@ -75,6 +75,22 @@ fn word(w: u32) {
     io::print_hex(STDOUT_FILENO, w as u64, 8);
 }
 
+fn numbers(list: &[u32]) {
+    let mut i = 0;
+    while i < list.len() {
+        word(list[i]);
+        i += 1;
+    }
+}
+
+// The answer of an operation that is lent a list, and what this then has in it.
+pub(crate) fn listed(name: &[u8], answer: CheckAnswer, list: &[u32]) {
+    passed(name, answer);
+    text(b" ");
+    numbers(list);
+    text(b"\n");
+}
+
 fn words(d: Record) {
     word(d.w0);
     word(d.w1);

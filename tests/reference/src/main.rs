@@ -14,6 +14,7 @@ mod group;
 mod message;
 mod modular;
 mod numbers;
+mod plots;
 mod posting;
 mod primes;
 mod record;

@@ -7,12 +7,15 @@ use crate::dealing::{judge_dealing, write_dealing};
 use crate::draw;
 use crate::equality::{equality, Equality};
 use crate::group::power;
+use crate::plots::pick_plots;
 use crate::record::{self, SIZE};
 use crate::round::Figures;
 use crate::sha256::{digest, sha256};
 use crate::share::{judge_share, write_share};
 use crate::sharing::{degree_check, opening, recovery};
 use crate::vectors::boards::applied;
+use crate::vectors::bytes;
+use crate::vectors::pick_plots::lent;
 use crate::Done;
 use std::error::Error;
 use std::io::Write;
@@ -85,6 +88,7 @@ fn run(case: &Case, base: &[u8], out: &mut impl Write) -> Done {
         12 => run_lines(case, base, out),
         13 => run_text(case, base, out),
         14 => print_length(out, b"base ", base.len()),
+        15 => run_pick_plots(case, out),
         _ => Err("no case".into()),
     }
 }
@@ -295,6 +299,13 @@ fn run_text(case: &Case, base: &[u8], out: &mut impl Write) -> Done {
     Ok(out.write_all(text.as_bytes())?)
 }
 
+fn run_pick_plots(case: &Case, out: &mut impl Write) -> Done {
+    let [number, value, radius, total, count, room] = case.arguments;
+    let mut list = lent(room);
+    let answer = pick_plots(number, value, radius, total, count, &mut list);
+    print_written(out, b"pick_plots ", answer, &bytes(&list))
+}
+
 #[cfg(test)]
 mod tests {
     use super::*;
@@ -310,7 +321,7 @@ mod tests {
 
     #[test]
     fn what_is_no_case() {
-        let unknown = record::bytes([[15, 0, 0, 0, 0, 0, 0, 0]]);
+        let unknown = record::bytes([[16, 0, 0, 0, 0, 0, 0, 0]]);
         let cut = record::bytes([[1, 0, 0, 0, 0, 0, 0, 1]]);
         let without_payload = record::bytes([[6, 1, 0, 0, 0, 0, 0, 0]]);
         for input in [&unknown[..], &unknown[1..], &cut, &without_payload] {

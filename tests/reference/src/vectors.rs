@@ -18,6 +18,7 @@ mod faults;
 mod judge_dealing;
 mod judge_share;
 mod opening;
+pub mod pick_plots;
 mod power;
 mod recovery;
 pub mod sample;
@@ -130,6 +131,7 @@ pub fn all() -> Vectors {
     write_share::add(&mut vectors);
     judge_share::add(&mut vectors);
     boards::add(&mut vectors);
+    pick_plots::add(&mut vectors);
     vectors
 }
 

@@ -24,6 +24,8 @@ const LARGEST: Figures = Figures {
 const DEALER: u32 = 31;
 const MEMBER: u32 = 31;
 
+const MOST_PLOTS: u32 = 4096;
+
 /// A case: its operation's number, the arguments behind the group, and the payload.
 struct Case {
     operation: u32,
@@ -77,6 +79,8 @@ fn case(name: &str) -> Option<(Vec<u8>, Case)> {
         "judge_dealing" => judge_dealing(&round, numbers),
         "write_share" => write_share_case(&round, numbers),
         "judge_share" => judge_share(&round, numbers),
+        "pick-all" => pick_plots(&round, MOST_PLOTS, numbers),
+        "pick-some" => pick_plots(&round, 40, numbers),
         "lines_check" => return Some(lines(11, |_| false, numbers)),
         "lines" => return Some(lines(12, |_| false, numbers)),
         "line" => return Some(lines(12, |member| member != MEMBER, numbers)),
@@ -186,6 +190,16 @@ fn judge_share(round: &Round, numbers: &mut Numbers) -> Case {
     Case::of(10, &arguments, [figures, record].concat())
 }
 
+/// So many of the most plots. A refused case has a list of the same length, which is printed too.
+fn pick_plots(round: &Round, count: u32, numbers: &mut Numbers) -> Case {
+    let value = round.group.power(H, numbers.below(round.group.q));
+    Case {
+        operation: 15,
+        arguments: vec![value, 15, MOST_PLOTS, count, count],
+        payload: Vec::new(),
+    }
+}
+
 fn written(answer: Answer<()>) {
     answer.expect("proper figures");
 }
@@ -211,7 +225,7 @@ mod tests {
     use super::*;
     use crate::replay::replay;
 
-    const NAMES: [&str; 13] = [
+    const NAMES: [&str; 15] = [
         "power",
         "degree",
         "opening",
@@ -225,6 +239,8 @@ mod tests {
         "lines_check",
         "lines",
         "line",
+        "pick-all",
+        "pick-some",
     ];
 
     /// The lines that the cases of a file are answered by, without that of a base.

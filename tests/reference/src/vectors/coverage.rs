@@ -4,6 +4,7 @@ use super::boards::applied;
 use super::{all, Vectors};
 use crate::draw;
 use crate::group::group;
+use crate::plots::rank;
 use crate::record::{self, Record, SIZE};
 use std::collections::BTreeSet;
 use std::sync::OnceLock;
@@ -74,9 +75,23 @@ fn lines(case: &Case) -> Vec<Record> {
     records.map(record::read).collect()
 }
 
+/// The list at the end of the answer to a case of picking plots.
+fn plots(case: &Case) -> Vec<u32> {
+    let (_, digits) = case.answer.rsplit_once(' ').unwrap();
+    let places = (0..digits.len()).step_by(8);
+    let numbers = places.map(|k| u32::from_str_radix(&digits[k..k + 8], 16).unwrap());
+    numbers.collect()
+}
+
+/// The list that is picked for group, draw value, radius, N and k.
+fn picked(figures: [u32; 5]) -> Vec<u32> {
+    let is_one = |case: &&Case| case.arguments[..5] == figures && case.answer.starts_with("passed");
+    plots(answered(15).find(is_one).unwrap())
+}
+
 #[test]
 fn every_number_of_each_operation() {
-    let numbers: [(u32, &[u32]); 11] = [
+    let numbers: [(u32, &[u32]); 12] = [
         (1, &[3]),
         (2, &[1, 6, 7]),
         (3, &[1, 2, 3, 6, 7, 9]),
@@ -88,6 +103,7 @@ fn every_number_of_each_operation() {
         (9, &[1, 2, 3, 6, 7, 8]),
         (10, &[1, 2, 3, 4, 6, 7, 8, 10]),
         (11, &[1, 2, 3, 4, 5, 8]),
+        (15, &[1, 3, 6, 15, 16]),
     ];
     let cases = cases();
     for (operation, numbers) in numbers {
@@ -256,5 +272,66 @@ fn sizes_of_sets_and_boards() {
         "1 1 1", "1 10 10", "2 31 16", "3 1 1", "3 31 1", "3 31 16", "3 31 31",
     ] {
         assert!(rounds.contains(round), "{round}");
+    }
+}
+
+/// Plots 1,630 and 1,857 by value 211. The shorter list is cut between the two.
+#[test]
+fn plots_of_equal_ranks() {
+    let [shorter, longer] = [141, 142].map(|count| picked([2, 211, 15, 4096, count]));
+    assert_eq!(longer[140..], [1630, 1857]);
+    assert_eq!(shorter, longer[..141]);
+    let [without, with] = [1856, 1857].map(|total| picked([2, 211, 15, total, 141]));
+    assert!(without.contains(&1630) && !without.contains(&1857));
+    assert!(with.windows(2).any(|pair| pair == [1630, 1857]));
+}
+
+/// The last two plots of these lists.
+#[test]
+fn equal_ranks_of_both_radii() {
+    for (value, radius, count) in [(211, 15, 142), (920, 15, 1584), (810, 10, 3150)] {
+        let mut list = picked([2, value, u32::from(radius), 4096, count]);
+        let last = list.split_off(list.len() - 2);
+        assert!(last[0] < last[1]);
+        assert_eq!(rank(value, radius, last[0]), rank(value, radius, last[1]));
+    }
+}
+
+/// The list of a value differs by the radius and not by the group.
+#[test]
+fn plots_of_one_value() {
+    for value in [4, 9, 16] {
+        let [small, large] = [10, 15].map(|radius| picked([1, value, radius, 40, 40]));
+        assert_ne!(small, large);
+        for number in [2, 3] {
+            assert_eq!(picked([number, value, 10, 40, 40]), small);
+            assert_eq!(picked([number, value, 15, 40, 40]), large);
+        }
+    }
+}
+
+#[test]
+fn all_of_the_most_plots() {
+    for radius in [10, 15] {
+        let is_one = |case: &&Case| {
+            case.arguments[2..] == [radius, 4096, 4096, 4096] && case.answer.starts_with("passed")
+        };
+        let mut list = plots(answered(15).find(is_one).unwrap());
+        list.sort();
+        assert!(list.into_iter().eq(1..=4096));
+    }
+}
+
+/// Nothing else is wrong in these cases, and the list stays as it was lent.
+#[test]
+fn radii_that_would_be_right_if_cut_and_the_largest() {
+    for radius in [266, 271, u32::MAX] {
+        let is_one = |case: &Case| {
+            let [_, value, of_case, total, count, room] = case.arguments;
+            let is_proper = value == 4 && [total, count, room] == [12, 5, 5];
+            is_proper && of_case == radius && case.answer.starts_with("refused 15 ")
+        };
+        let case = answered(15).find(|case| is_one(case)).unwrap();
+        assert!(plots(case).iter().all(|&number| number == 0xa5a5_a5a5));
     }
 }
