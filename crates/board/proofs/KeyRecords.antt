@@ -24,7 +24,7 @@ keys-exact S b c m h l =
       kind = k .0;
       member = k .2;
       only = λ i u e f.
-          only-record (sorted (S .n) b (r .form)) keyKind 0 m i u (true-at (recordAt b i) keyKind 0 m e (shapes (S .n) b (r .form) i u .key e) f);
+          only-record (sorted S b (r .form)) keyKind 0 m i u (true-at (recordAt b i) keyKind 0 m e (shapes S b (r .form) i u .key e) f);
       proper =
           members-exactly (λ i. isKey (S .group) (keyIn b i)) (S .n) .0
           (sym (all-map (isKey (S .group)) (keyIn b) (members (S .n))) ∙ r .proper .0) m h l;

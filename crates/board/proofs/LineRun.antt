@@ -1,6 +1,5 @@
 -- A dealer's lines are the run between two places, and n lines are those of the members 1 to n in order.
 use mathlib.Core.Path.{_≡_, sym, ap, _∙_, subst}
-use mathlib.Core.Bool.{true}
 use mathlib.Core.List.{List}
 use Prim.Native.Nat.{ℕ, suc, _+_, _-_, _*_, _<_}
 use native.Mathlib.Omega.{arith}
@@ -12,18 +11,18 @@ use Rattle.words.specs.declared.Record.{Record}
 use Rattle.words.proofs.Lists.{part-part}
 use Rattle.sharing.specs.Setting.{ProperSetting}
 use Rattle.sharing.specs.declared.Setting.{Setting}
-use Rattle.records.specs.Layout.{lineKind, dealerOf, memberOf, isRoundless, recordAt}
+use Rattle.records.specs.Layout.{lineKind, dealerOf, memberOf, roundOf, recordAt}
 use Rattle.board.specs.Search.{recordsIn}
 use Rattle.board.specs.Board.{formChecks, linesStart, linesEnd, lineCount, linesOf}
 use Rattle.board.specs.Sorted.{Sorted}
 use Rattle.board.specs.Claims.{ExactLines, LinesExact}
 use Rattle.board.proofs.Searches.{fills}
-use Rattle.board.proofs.Order.{Shaped, shapes, roundless, sorted, members-rise}
+use Rattle.board.proofs.Order.{Shaped, shapes, of-round, sorted, members-rise}
 use Rattle.board.proofs.Places.{place-within, run-rises, in-run, to-run}
 
-module _ (S : Setting) (b : List ℕ) (P : ProperSetting S) (form : Met (formChecks (S .n) b)) (d : ℕ) where
+module _ (S : Setting) (b : List ℕ) (P : ProperSetting S) (form : Met (formChecks S b)) (d : ℕ) where
   rising : Sorted b
-  rising = sorted (S .n) b form
+  rising = sorted S b form
 
   -- ---- the part's bytes
   part-size : length (linesOf b d) ≡ 32 * lineCount b d
@@ -67,18 +66,18 @@ module _ (S : Setting) (b : List ℕ) (P : ProperSetting S) (form : Met (formChe
       line k h = in-run rising lineKind d (linesStart b d + k) (omega arith) (omega arith)
 
       shape : (k : ℕ) → k < S .n → Shaped (S .n) (recordAt b (linesStart b d + k))
-      shape k h = shapes (S .n) b form (linesStart b d + k) (inside k h)
+      shape k h = shapes S b form (linesStart b d + k) (inside k h)
 
-  -- ---- the record of the k-th line: its shape, kind, dealer and last word
+  -- ---- the record of the k-th line: its shape, kind, dealer and round
   pub line-record : (k : ℕ) → k < lineCount b d
-      → Shaped (S .n) (recordAt (linesOf b d) k) × (recordAt (linesOf b d) k .w0 ≡ lineKind) × (dealerOf (recordAt (linesOf b d) k) ≡ d) × (isRoundless (recordAt (linesOf b d) k) ≡ true)
+      → Shaped (S .n) (recordAt (linesOf b d) k) × (recordAt (linesOf b d) k .w0 ≡ lineKind) × (dealerOf (recordAt (linesOf b d) k) ≡ d) × (roundOf (recordAt (linesOf b d) k) ≡ S .round)
   unfolding lineCount
   line-record k h =
       let i = linesStart b d + k in
       let inside = place-within b lineKind d 32 in
       let run = in-run rising lineKind d i (omega arith) (omega arith) in
-      subst (λ (r : Record). Shaped (S .n) r × (r .w0 ≡ lineKind) × (dealerOf r ≡ d) × (isRoundless r ≡ true)) (sym (part-record k h))
-      (shapes (S .n) b form i (omega arith), run .0, run .1, roundless (S .n) b form i (omega arith))
+      subst (λ (r : Record). Shaped (S .n) r × (r .w0 ≡ lineKind) × (dealerOf r ≡ d) × (roundOf r ≡ S .round)) (sym (part-record k h))
+      (shapes S b form i (omega arith), run .0, run .1, of-round S b form i (omega arith))
 
   lines-of : ExactLines (S .n) b d
   lines-of =
@@ -86,7 +85,7 @@ module _ (S : Setting) (b : List ℕ) (P : ProperSetting S) (form : Met (formChe
         inside = place-within b lineKind d 32;
         rising = run-rises rising lineKind d;
         only-lines = in-run rising lineKind d;
-        all-lines = λ i h k e. to-run rising lineKind d i h k e (omega (arith, shapes (S .n) b form i h .member, P .n-most));
+        all-lines = λ i h k e. to-run rising lineKind d i h k e (omega (arith, shapes S b form i h .member, P .n-most));
         size = part-size;
         in-place = part-record;
         by-member = λ c i h l.

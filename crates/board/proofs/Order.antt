@@ -1,8 +1,9 @@
--- What the checks of form and order settle: every record is one of the table, and every record is above those before it.
+-- What the checks of form and order settle: every record is one of the table, of the round, and above those before it. And what refuses a
+-- record of another round.
 use mathlib.Core.Path.{_≡_, refl, sym, ap, _∙_, subst}
 use mathlib.Core.Bool.{Bool, true, false, _&&_}
 use mathlib.Core.List.{List}
-use mathlib.Core.Logic.{⊎-elim}
+use mathlib.Core.Logic.{inl, inr, ⊎-elim}
 use Prim.Native.Nat.{ℕ, zero, suc, _+_, _-_, _%_, _<_, _≤_}
 use native.Mathlib.Nat.{eq-or-lt-of-le, le-of-suc-le-suc, not-suc-le-zero}
 use native.Mathlib.Omega.{arith}
@@ -11,30 +12,31 @@ use lib.ListN.{length}
 use lib.Dec.{ltb, eqb}
 use Rattle.words.specs.Choice.{pick}
 use Rattle.words.specs.Lists.{all}
-use Rattle.words.specs.Checks.{Met}
+use Rattle.words.specs.Checks.{Met, FirstUnmet}
 use Rattle.words.specs.declared.Record.{Record}
-use Rattle.words.proofs.Stages.{met-both}
+use Rattle.words.proofs.Stages.{met-both, rest-first}
 use Rattle.words.proofs.Tests.{false-true, and-true, pick-false}
 use Rattle.sharing.specs.Setting.{isMember, members}
 use Rattle.sharing.specs.declared.Setting.{Setting}
-use Rattle.records.specs.Layout.{keyKind, lineKind, openingKind, shareKind, dealerOf, memberOf}
-use Rattle.records.specs.Layout.{agrees, isKeyRecord, isLineRecord, isOpeningRecord, isShareRecord, isRoundless, recordAt}
+use Rattle.records.specs.Layout.{keyKind, lineKind, openingKind, shareKind, dealerOf, memberOf, roundOf}
+use Rattle.records.specs.Layout.{agrees, isKeyRecord, isLineRecord, isOpeningRecord, isShareRecord, isOfRound, recordAt}
 use Rattle.records.specs.Keys.{keyChecks}
 use Rattle.records.proofs.Members.{member-exactly}
 use Rattle.board.specs.Search.{recordsIn}
-use Rattle.board.specs.Board.{isShaped, isBelow, isAbove, inOrder, oneRecordChecks, recordChecks, formChecks, hasKey, keysIn, boardKeyChecks, boardChecks}
+use Rattle.board.specs.Board.{isShaped, isBelow, isAbove, inOrder, oneRecordChecks, recordChecks, lengthChecks, formChecks, hasKey, keysIn, boardKeyChecks, boardChecks}
 use Rattle.board.specs.Sorted.{Sorted}
+use Rattle.board.specs.Claims.{RecordsOfRound, BoardOfOtherRound}
 
 -- ---- the checks before verdicts, taken apart
 pub record Reached (S : Setting) (b : List ℕ) : Type 0 where
-  pub form : Met (formChecks (S .n) b)
+  pub form : Met (formChecks S b)
   pub keys : all (hasKey b) (members (S .n)) ≡ true
   pub proper : Met (keyChecks (S .group) (keysIn (S .n) b))
 
 pub reached : (S : Setting) (b : List ℕ) → Met (boardChecks S b) → Reached S b
 unfolding boardChecks boardKeyChecks
 reached S b m =
-    let s = met-both (formChecks (S .n) b) (boardKeyChecks S b) m in
+    let s = met-both (formChecks S b) (boardKeyChecks S b) m in
     record { form = s .0; keys = s .1 .0; proper = s .1 .1 }
 
 -- ---- one record
@@ -149,23 +151,23 @@ members-rise {b} S i j h l =
 
 -- ---- every record
 -- what its checks settle of the record i
-record InForm (n : ℕ) (b : List ℕ) (i : ℕ) : Type 0 where
-  shaped : isShaped n (recordAt b i) ≡ true
-  roundless : isRoundless (recordAt b i) ≡ true
+record InForm (S : Setting) (b : List ℕ) (i : ℕ) : Type 0 where
+  shaped : isShaped (S .n) (recordAt b i) ≡ true
+  ours : isOfRound (S .round) (recordAt b i) ≡ true
   ordered : inOrder b i ≡ true
 
-module _ (n : ℕ) (b : List ℕ) where
-  record-met : (i : ℕ) → Met (oneRecordChecks n b i) → InForm n b i
-  record-met i h = record { shaped = h .0; roundless = h .1 .0; ordered = h .1 .1 .0 }
+module _ (S : Setting) (b : List ℕ) where
+  record-met : (i : ℕ) → Met (oneRecordChecks S b i) → InForm S b i
+  record-met i h = record { shaped = h .0; ours = h .1 .0; ordered = h .1 .1 .0 }
 
-  records-met : (i m : ℕ) → Met (recordChecks n b i m) → (x : ℕ) → i ≤ x → x < i + m → InForm n b x
+  records-met : (i m : ℕ) → Met (recordChecks S b i m) → (x : ℕ) → i ≤ x → x < i + m → InForm S b x
   records-met i zero h x l u = absurd (omega arith)
   records-met i (suc m) h x l u =
-      let s = met-both (oneRecordChecks n b i) (recordChecks n b (suc i) m) h in
-      ⊎-elim (λ w. subst (InForm n b) w (record-met i (s .0))) (λ w. records-met (suc i) m (s .1) x w (omega arith)) (eq-or-lt-of-le l)
+      let s = met-both (oneRecordChecks S b i) (recordChecks S b (suc i) m) h in
+      ⊎-elim (λ w. subst (InForm S b) w (record-met i (s .0))) (λ w. records-met (suc i) m (s .1) x w (omega arith)) (eq-or-lt-of-le l)
 
-  module _ (form : Met (formChecks n b)) where
-    record-in-form : (i : ℕ) → i < recordsIn b → InForm n b i
+  module _ (form : Met (formChecks S b)) where
+    record-in-form : (i : ℕ) → i < recordsIn b → InForm S b i
     unfolding formChecks
     record-in-form i h = records-met 0 (recordsIn b) (form .1) i (omega arith) (omega arith)
 
@@ -173,11 +175,11 @@ module _ (n : ℕ) (b : List ℕ) where
     unfolding formChecks
     few-records = leb-true _ _ (and-true (eqb (length b % 32) 0) _ (form .0) .1)
 
-    pub shapes : (i : ℕ) → i < recordsIn b → Shaped n (recordAt b i)
-    shapes i h = shaped-true n (recordAt b i) (record-in-form i h .shaped)
+    pub shapes : (i : ℕ) → i < recordsIn b → Shaped (S .n) (recordAt b i)
+    shapes i h = shaped-true (S .n) (recordAt b i) (record-in-form i h .shaped)
 
-    pub roundless : (i : ℕ) → i < recordsIn b → isRoundless (recordAt b i) ≡ true
-    roundless i h = record-in-form i h .roundless
+    pub of-round : (i : ℕ) → i < recordsIn b → roundOf (recordAt b i) ≡ S .round
+    of-round i h = eqb-true (roundOf (recordAt b i)) (S .round) (record-in-form i h .ours)
 
     next-above : (i : ℕ) → suc i < recordsIn b → isAbove (recordAt b i) (recordAt b (suc i)) ≡ true
     next-above i h =
@@ -197,3 +199,29 @@ module _ (n : ℕ) (b : List ℕ) where
 
     pub sorted : Sorted b
     sorted = record { ascends = above }
+
+-- ---- rounds
+pub records-of-round : RecordsOfRound
+records-of-round = of-round
+
+-- where the records before i are met, a record i that is shaped and of another round is the first that is not
+other-round : (S : Setting) (b : List ℕ) (m i j : ℕ) → j < m → Met (recordChecks S b i j) → isShaped (S .n) (recordAt b (i + j)) ≡ true
+    → (roundOf (recordAt b (i + j)) ≡ S .round → ⊥) → FirstUnmet 17 (recordChecks S b i m)
+other-round S b zero i j h k e n = absurd (not-suc-le-zero h)
+other-round S b (suc m) i zero h k e n =
+    let same : recordAt b (i + 0) ≡ recordAt b i = let z : i + 0 ≡ i = omega arith in ap (recordAt b) z in
+    inr (ap (isShaped (S .n)) (sym same) ∙ e, inl (ne-eqb (roundOf (recordAt b i)) (S .round) (λ f. n (ap roundOf same ∙ f)), refl))
+other-round S b (suc m) i (suc j) h k e n =
+    let step : suc i + j ≡ i + suc j = omega arith in
+    let s = met-both (oneRecordChecks S b i) (recordChecks S b (suc i) j) k in
+    rest-first (oneRecordChecks S b i) (recordChecks S b (suc i) m) 17 (s .0)
+    (other-round S b m (suc i) j (le-of-suc-le-suc h) (s .1) (ap (λ (x : ℕ). isShaped (S .n) (recordAt b x)) step ∙ e)
+    (λ f. n (ap (λ (x : ℕ). roundOf (recordAt b x)) (sym step) ∙ f)))
+
+pub board-of-other-round : BoardOfOtherRound
+unfolding formChecks
+board-of-other-round S b i h m e n =
+    let s = met-both (lengthChecks b) (recordChecks S b 0 i) m in
+    let same : recordAt b (0 + i) ≡ recordAt b i = let z : 0 + i ≡ i = omega arith in ap (recordAt b) z in
+    rest-first (lengthChecks b) (recordChecks S b 0 (recordsIn b)) 17 (s .0)
+    (other-round S b (recordsIn b) 0 i h (s .1) (ap (isShaped (S .n)) same ∙ e) (λ f. n (ap roundOf (sym same) ∙ f)))

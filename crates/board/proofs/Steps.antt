@@ -10,7 +10,8 @@ use Rattle.words.specs.Choice.{pick}
 use Rattle.words.specs.Checks.{refusal}
 use Rattle.words.specs.declared.Record.{Record}
 use Rattle.words.proofs.Tests.{pick-true, pick-false}
-use Rattle.records.specs.Layout.{isRoundless, recordAt}
+use Rattle.sharing.specs.declared.Setting.{Setting}
+use Rattle.records.specs.Layout.{isOfRound, recordAt}
 use Rattle.board.specs.Board.{isShaped, isAbove, inOrder, recordChecks}
 
 -- ---- counting up to n
@@ -35,34 +36,34 @@ module _ (b : List ℕ) (i : ℕ) {r : Record} (e : r ≡ recordAt b i) where
 pub order-first : (b : List ℕ) (i : ℕ) → i ≤ 0 → inOrder b i ≡ true
 order-first b i h = pick-true (eqb i 0) true _ (eq-eqb i 0 (omega arith))
 
-module _ (n : ℕ) (b : List ℕ) (m i : ℕ) where
+module _ (S : Setting) (b : List ℕ) (m i : ℕ) where
   -- what the records from j on are refused by
   abbrev pub refusalFrom : ℕ → ℕ
-  refusalFrom j = refusal (recordChecks n b j (m - j))
+  refusalFrom j = refusal (recordChecks S b j (m - j))
 
   abbrev shape : Bool
-  shape = isShaped n (recordAt b i)
+  shape = isShaped (S .n) (recordAt b i)
 
-  abbrev plain : Bool
-  plain = isRoundless (recordAt b i)
+  abbrev ours : Bool
+  ours = isOfRound (S .round) (recordAt b i)
 
-  record-turn : i < m → refusalFrom i ≡ pick shape (pick plain (pick (inOrder b i) (refusalFrom (i + 1)) 5) 4) 4
+  record-turn : i < m → refusalFrom i ≡ pick shape (pick ours (pick (inOrder b i) (refusalFrom (i + 1)) 5) 17) 4
   record-turn h =
-      ap (λ (k : ℕ). refusal (recordChecks n b i k)) (one-less m i h)
-      ∙ ap (λ (j : ℕ). pick shape (pick plain (pick (inOrder b i) (refusal (recordChecks n b j (m - (i + 1)))) 5) 4) 4) (one-more i)
+      ap (λ (k : ℕ). refusal (recordChecks S b i k)) (one-less m i h)
+      ∙ ap (λ (j : ℕ). pick shape (pick ours (pick (inOrder b i) (refusal (recordChecks S b j (m - (i + 1)))) 5) 17) 4) (one-more i)
 
-  pub unshaped : i < m → isShaped n (recordAt b i) ≡ false → refusalFrom i ≡ 4
+  pub unshaped : i < m → isShaped (S .n) (recordAt b i) ≡ false → refusalFrom i ≡ 4
   unshaped h e = record-turn h ∙ pick-false shape _ 4 e
 
-  module _ (h : i < m) (e : isShaped n (recordAt b i) ≡ true) where
-    pub unplain : isRoundless (recordAt b i) ≡ false → refusalFrom i ≡ 4
-    unplain f = record-turn h ∙ pick-true shape _ 4 e ∙ pick-false plain _ 4 f
+  module _ (h : i < m) (e : isShaped (S .n) (recordAt b i) ≡ true) where
+    pub foreign : isOfRound (S .round) (recordAt b i) ≡ false → refusalFrom i ≡ 17
+    foreign f = record-turn h ∙ pick-true shape _ 4 e ∙ pick-false ours _ 17 f
 
-    pub unordered : isRoundless (recordAt b i) ≡ true → inOrder b i ≡ false → refusalFrom i ≡ 5
-    unordered f g = record-turn h ∙ pick-true shape _ 4 e ∙ pick-true plain _ 4 f ∙ pick-false (inOrder b i) _ 5 g
+    pub unordered : isOfRound (S .round) (recordAt b i) ≡ true → inOrder b i ≡ false → refusalFrom i ≡ 5
+    unordered f g = record-turn h ∙ pick-true shape _ 4 e ∙ pick-true ours _ 17 f ∙ pick-false (inOrder b i) _ 5 g
 
-    pub record-passed : isRoundless (recordAt b i) ≡ true → inOrder b i ≡ true → refusalFrom i ≡ refusalFrom (i + 1)
-    record-passed f g = record-turn h ∙ pick-true shape _ 4 e ∙ pick-true plain _ 4 f ∙ pick-true (inOrder b i) _ 5 g
+    pub record-passed : isOfRound (S .round) (recordAt b i) ≡ true → inOrder b i ≡ true → refusalFrom i ≡ refusalFrom (i + 1)
+    record-passed f g = record-turn h ∙ pick-true shape _ 4 e ∙ pick-true ours _ 17 f ∙ pick-true (inOrder b i) _ 5 g
 
   pub records-passed : m ≤ i → refusalFrom i ≡ 0
-  records-passed h = ap (λ (k : ℕ). refusal (recordChecks n b i k)) (none-left m i h)
+  records-passed h = ap (λ (k : ℕ). refusal (recordChecks S b i k)) (none-left m i h)

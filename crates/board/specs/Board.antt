@@ -12,12 +12,12 @@ use Rattle.sharing.specs.Setting.{judged, judgedElse, isMember, members}
 use Rattle.sharing.specs.declared.Round.{Round}
 use Rattle.sharing.specs.declared.Setting.{Setting}
 use Rattle.records.specs.Layout.{keyKind, lineKind, openingKind, dealerOf, memberOf, yOf}
-use Rattle.records.specs.Layout.{isKeyRecord, isLineRecord, isOpeningRecord, isShareRecord, isRoundless, recordAt}
+use Rattle.records.specs.Layout.{isKeyRecord, isLineRecord, isOpeningRecord, isShareRecord, isOfRound, recordAt}
 use Rattle.records.specs.Keys.{keyChecks}
 use Rattle.board.specs.Search.{first, recordsIn}
 
 -- ---- form and order
--- a record of the table: its kind known, its dealer and member in range or 0 as the table has it, its spare words but the last zero
+-- a record of the table: its kind known, its dealer and member in range or 0 as the table has it, its spare words zero
 unfoldable pub isShaped : ℕ → Record → Bool
 isShaped n r =
     pick (isKeyRecord r) (isMember n (memberOf r))
@@ -37,22 +37,26 @@ isAbove r s = isBelow r (s .w0) (dealerOf s) (memberOf s)
 abbrev pub inOrder : List ℕ → ℕ → Bool
 inOrder b i = pick (eqb i 0) true (isAbove (recordAt b (i - 1)) (recordAt b i))
 
--- the record i: 4 a shape that is none of the table's, or a last word, and then 5
-abbrev pub oneRecordChecks : ℕ → List ℕ → ℕ → List Check
-oneRecordChecks n b i =
-    4 unless isShaped n (recordAt b i)
-    ∷ 4 unless isRoundless (recordAt b i)
+-- the record i: 4 a shape that is none of the table's, 17 another round, and then 5
+abbrev pub oneRecordChecks : Setting → List ℕ → ℕ → List Check
+oneRecordChecks S b i =
+    4 unless isShaped (S .n) (recordAt b i)
+    ∷ 17 unless isOfRound (S .round) (recordAt b i)
     ∷ 5 unless inOrder b i
     ∷ []
 
 -- record by record, for m records from the record i on
-abbrev pub recordChecks : ℕ → List ℕ → ℕ → ℕ → List Check
-recordChecks n b i zero = []
-recordChecks n b i (suc m) = oneRecordChecks n b i ++ recordChecks n b (suc i) m
+abbrev pub recordChecks : Setting → List ℕ → ℕ → ℕ → List Check
+recordChecks S b i zero = []
+recordChecks S b i (suc m) = oneRecordChecks S b i ++ recordChecks S b (suc i) m
 
--- whole records, at most 2,048, each in form and above the one before
-unfoldable pub formChecks : ℕ → List ℕ → List Check
-formChecks n b = 3 unless (eqb (length b % 32) 0 && leb (recordsIn b) 2048) ∷ recordChecks n b 0 (recordsIn b)
+-- whole records, at most 2,048
+abbrev pub lengthChecks : List ℕ → List Check
+lengthChecks b = 3 unless (eqb (length b % 32) 0 && leb (recordsIn b) 2048) ∷ []
+
+-- and each in form, of the round, and above the one before
+unfoldable pub formChecks : Setting → List ℕ → List Check
+formChecks S b = lengthChecks b ++ recordChecks S b 0 (recordsIn b)
 
 -- ---- records by their address
 -- the place of an address: the first record that is not below it, the number of records where there is none
@@ -86,9 +90,9 @@ keysIn n b = map (keyIn b) (members n)
 unfoldable pub boardKeyChecks : Setting → List ℕ → List Check
 boardKeyChecks S b = 12 unless all (hasKey b) (members (S .n)) ∷ keyChecks (S .group) (keysIn (S .n) b)
 
--- ---- what is refused before verdicts: 3; record by record 4 and 5; 12 and 6
+-- ---- what is refused before verdicts: 3; record by record 4, 17 and 5; 12 and 6
 unfoldable pub boardChecks : Setting → List ℕ → List Check
-boardChecks S b = formChecks (S .n) b ++ boardKeyChecks S b
+boardChecks S b = formChecks S b ++ boardKeyChecks S b
 
 -- ---- a dealer's lines
 -- members are at most 31, so his lines stand from the place of member 0 to that of member 32
@@ -107,7 +111,7 @@ linesOf b d = take (32 * linesEnd b d - 32 * linesStart b d) (drop (32 * linesSt
 
 -- the checks of both operations on a dealer's lines
 unfoldable pub linesChecks : Setting → ℕ → List ℕ → List Check
-linesChecks S d b = 8 unless isMember (S .n) d ∷ formChecks (S .n) b
+linesChecks S d b = 8 unless isMember (S .n) d ∷ formChecks S b
 
 -- whether his lines can be told
 unfoldable pub linesOutcome : Round → ℕ → List ℕ → Outcome (Unit {0})

@@ -1,16 +1,16 @@
--- What is claimed of boards before verdicts: keys and lines.
+-- What is claimed of boards before verdicts: keys, lines and rounds.
 use mathlib.Core.Path.{_≡_}
 use mathlib.Core.Bool.{true}
-use mathlib.Core.List.{List}
+use mathlib.Core.List.{List, _++_}
 use Prim.Native.Nat.{ℕ, _+_, _*_, _<_, _≤_}
 use lib.ListN.{length}
-use Rattle.words.specs.Checks.{Met}
+use Rattle.words.specs.Checks.{Met, FirstUnmet}
 use Rattle.sharing.specs.Setting.{ProperSetting}
 use Rattle.sharing.specs.declared.Setting.{Setting}
-use Rattle.records.specs.Layout.{keyKind, lineKind, dealerOf, memberOf, recordAt, recordOf}
+use Rattle.records.specs.Layout.{keyKind, lineKind, dealerOf, memberOf, roundOf, recordAt, recordOf}
 use Rattle.records.specs.Keys.{isKey}
 use Rattle.board.specs.Search.{recordsIn}
-use Rattle.board.specs.Board.{formChecks, boardChecks, keyPlace, keyIn, linesStart, linesEnd, lineCount, linesOf}
+use Rattle.board.specs.Board.{isShaped, recordChecks, lengthChecks, formChecks, boardChecks, keyPlace, keyIn, linesStart, linesEnd, lineCount, linesOf}
 
 -- ---- keys
 -- the record at keyPlace is the one key record of member m, and holds a proper key
@@ -37,4 +37,15 @@ pub record ExactLines (n : ℕ) (b : List ℕ) (d : ℕ) : Type 0 where
 
 -- on every board of which the form and order of records is not refused
 abbrev pub LinesExact : Type 0
-LinesExact = (S : Setting) (b : List ℕ) → ProperSetting S → Met (formChecks (S .n) b) → (d : ℕ) → ExactLines (S .n) b d
+LinesExact = (S : Setting) (b : List ℕ) → ProperSetting S → Met (formChecks S b) → (d : ℕ) → ExactLines (S .n) b d
+
+-- ---- rounds
+-- where nothing of form and order is refused, every record is of the round
+abbrev pub RecordsOfRound : Type 0
+RecordsOfRound = (S : Setting) (b : List ℕ) → Met (formChecks S b) → (i : ℕ) → i < recordsIn b → roundOf (recordAt b i) ≡ S .round
+
+-- a record of another round refuses a board by 17 where nothing earlier does: the length, a record before it, and its own form
+abbrev pub BoardOfOtherRound : Type 0
+BoardOfOtherRound =
+    (S : Setting) (b : List ℕ) (i : ℕ) → i < recordsIn b → Met (lengthChecks b ++ recordChecks S b 0 i) → isShaped (S .n) (recordAt b i) ≡ true
+    → (roundOf (recordAt b i) ≡ S .round → ⊥) → FirstUnmet 17 (formChecks S b)

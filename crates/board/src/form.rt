@@ -6,14 +6,15 @@ ghost use Rattle.board.specs.Board.{isShaped, isBelow, recordChecks, for
 use crate::search::records;
 use records::is_key_record;
 use records::is_line_record;
+use records::is_of_round;
 use records::is_opening_record;
-use records::is_roundless;
 use records::is_share_record;
 use records::record_at;
+use sharing::Setting;
 use sharing::is_member;
 use words::Record;
 
-// Whether r is a record of the table, for n members; its last word is tested apart.
+// Whether r is a record of the table, for n members; its round is tested apart.
 fn is_shaped(n: u32, r: Record) -> bool
     ensures { λ a. ⌜ a ≡ isShaped n r ⌝ }
 {
@@ -45,20 +46,20 @@ pub(crate) fn is_below(r: Record, k: u32, d: u32, m: u32) -> bool
     r.w2 < m
 }
 
-// Record by record: 4 a record that is none of the table, or has a last word; 5 a record that is not above the one before. 0 where there
-// is none.
-fn records_refusal(n: u32, b: &[u8]) -> u32
-    ensures { λ r. ⌜ r ≡ refusal (recordChecks n (now (b .entry)) 0 (recordsIn (now (b .entry)))) ⌝ }
+// Record by record: 4 a record that is none of the table; 17 a record of another round; 5 a record that is not above the one before. 0
+// where there is none.
+fn records_refusal(s: Setting, b: &[u8]) -> u32
+    ensures { λ r. ⌜ r ≡ refusal (recordChecks s (now (b .entry)) 0 (recordsIn (now (b .entry)))) ⌝ }
 {
     let all = records(b);
     let mut i = 0;
     while i < all {
         let r = record_at(b, i);
-        if !is_shaped(n, r) {
+        if !is_shaped(s.n, r) {
             return 4;
         }
-        if !is_roundless(r) {
-            return 4;
+        if !is_of_round(s.round, r) {
+            return 17;
         }
         if i > 0 {
             if !is_below(record_at(b, i - 1), r.w0, r.w1, r.w2) {
@@ -70,9 +71,10 @@ fn records_refusal(n: u32, b: &[u8]) -> u32
     0
 }
 
-// What the form of a board is refused by: 3 not whole records or more than 2,048; 4 and 5 record by record. 0 where it is not.
-pub(crate) fn form_refusal(n: u32, b: &[u8]) -> u32
-    ensures { λ r. ⌜ r ≡ refusal (formChecks n (now (b .entry))) ⌝ }
+// What the form of a board is refused by: 3 not whole records or more than 2,048; 4, 17 and 5 record by record. 0 where it is
+// not.
+pub(crate) fn form_refusal(s: Setting, b: &[u8]) -> u32
+    ensures { λ r. ⌜ r ≡ refusal (formChecks s (now (b .entry))) ⌝ }
 {
     if b.len() % 32 != 0 {
         return 3;
@@ -80,5 +82,5 @@ pub(crate) fn form_refusal(n: u32, b: &[u8]) -> u32
     if records(b) > 2048 {
         return 3;
     }
-    records_refusal(n, b)
+    records_refusal(s, b)
 }

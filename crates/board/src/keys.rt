@@ -59,13 +59,13 @@ fn board_keys_refusal(s: Setting, b: &[u8]) -> u32
     keys_refusal(s.group, &board_keys(b, s.n)[..n])
 }
 
-// What a board is refused by before verdicts: 3, 4 and 5 its form; 12 and 6 its keys. 0 where it is not.
+// What a board is refused by before verdicts: 3, 4, 17 and 5 its form; 12 and 6 its keys. 0 where it is not.
 // Internal: callers ensure that the setting is proper.
 pub fn board_refusal_in(s: Setting, b: &[u8]) -> u32
     requires { ⌜ ProperSetting s ⌝ }
     ensures { λ r. ⌜ r ≡ refusal (boardChecks s (now (b .entry))) ⌝ }
 {
-    let k = form_refusal(s.n, b);
+    let k = form_refusal(s, b);
     if k != 0 {
         return k;
     }

@@ -28,17 +28,17 @@ pub fn lines_of(b: &[u8], d: u32) -> &[u8]
     &b[from..to]
 }
 
-// What the lines of dealer d are refused by: 8 d is no member; 3, 4 and 5 the board's form. 0 where they are not.
+// What the lines of dealer d are refused by: 8 d is no member; 3, 4, 17 and 5 the board's form. 0 where they are not.
 fn lines_refusal(s: Setting, d: u32, b: &[u8]) -> u32
     ensures { λ r. ⌜ r ≡ refusal (linesChecks s d (now (b .entry))) ⌝ }
 {
     if !is_member(s.n, d) {
         return 8;
     }
-    form_refusal(s.n, b)
+    form_refusal(s, b)
 }
 
-// Whether the lines of dealer d can be told. Refused: 1 and 2 as setting_of; 8 d is no member; 3, 4 and 5 the board's form.
+// Whether the lines of dealer d can be told. Refused: 1 and 2 as setting_of; 8 d is no member; 3, 4, 17 and 5 the board's form.
 pub fn lines_check(rd: Round, d: u32, b: &[u8]) -> CheckAnswer
     ensures { λ r. ⌜ checkOutcomeOf r ≡ linesOutcome rd d (now (b .entry)) ⌝ }
 {

@@ -1,18 +1,23 @@
 -- Messages laid out in a buffer: words put one after the other, the words of every member, what is put behind the head, and the byte
 -- that tells coefficients apart.
 use mathlib.Core.Path.{_≡_, refl, sym, ap, _∙_}
+use mathlib.Core.Bool.{Bool, true, false}
 use mathlib.Core.List.{List, [], _∷_, _++_, append-assoc, append-nil}
 use Prim.Native.Nat.{ℕ, _+_, _*_, _≤_, _<_}
 use native.Mathlib.Nat.{mul-zero, mul-suc}
 use native.Mathlib.Omega.{arith}
-use lib.ListN.{length, take, set, length-append}
+use borrow.Author.Tests.{eq-eqb, ne-eqb}
+use lib.ListN.{length, take, set, length-append, length-set}
+use lib.Dec.{eqb}
 use lib.Seq.{sets-eq, set-at, take-set-lt}
+use Rattle.words.specs.Choice.{pick}
 use Rattle.words.specs.Bytes.{wordBytes, wordsBytes, putAt}
 use Rattle.words.proofs.Lists.{up-length, up-last}
-use Rattle.words.proofs.Bytes.{words-length, put-length, put-take, put-byte, put-put}
+use Rattle.words.proofs.Tests.{pick-true, pick-false}
+use Rattle.words.proofs.Bytes.{word-length, words-length, put-length, put-take, put-byte, put-put}
 use Rattle.sharing.specs.Setting.{members}
 use Rattle.sharing.specs.declared.Setting.{Setting}
-use Rattle.challenge.specs.Message.{coefficientTag, headBytes, message, bytesOver, coefficientMessage}
+use Rattle.challenge.specs.Message.{coefficientTag, roundBytes, headBytes, message, bytesOver, coefficientMessage}
 
 -- ---- words put one after the other
 words-append : (ws us : List ℕ) → wordsBytes (ws ++ us) ≡ wordsBytes ws ++ wordsBytes us
@@ -72,17 +77,58 @@ module _ (f : ℕ → List ℕ) where
         ∙ ap (λ (t : List ℕ). putAt k t l) (sym (over-last i))
 
 -- ---- the head
-module _ (tag : ℕ) (S : Setting) (d : ℕ) where
-  -- every message has room for it in 16 bytes
-  pub head-length : length (headBytes tag S d) ≤ 16
-  unfolding headBytes
-  head-length = omega arith
+module _ (round : ℕ) where
+  pub round-none : round ≡ 0 → roundBytes round ≡ []
+  unfolding roundBytes
+  round-none e = pick-true (eqb round 0) [] (wordBytes round) (eq-eqb round 0 e)
 
-  -- five stores
-  pub head-stores : (l : List ℕ) → length (headBytes tag S d) ≤ length l
-      → set (set (set (set (set l 0 tag) 1 (S .number)) 2 (S .n)) 3 (S .t)) 4 d ≡ putAt 0 (headBytes tag S d) l
-  unfolding headBytes putAt
-  head-stores l h = sets-eq (tag ∷ S .number ∷ S .n ∷ S .t ∷ d ∷ []) l 0 h
+  pub round-some : (round ≡ 0 → ⊥) → roundBytes round ≡ wordBytes round
+  unfolding roundBytes
+  round-some e = pick-false (eqb round 0) [] (wordBytes round) (ne-eqb round 0 e)
+
+  pub round-length : length (roundBytes round) ≤ 4
+  unfolding roundBytes
+  round-length = by-test (eqb round 0)
+    where
+      by-test : (z : Bool) → length (pick z [] (wordBytes round)) ≤ 4
+      by-test true = omega arith
+      by-test false = omega (arith, word-length round)
+
+module _ (tag : ℕ) (S : Setting) (d : ℕ) where
+  pub head-length : length (headBytes tag S d) ≡ 5 + length (roundBytes (S .round))
+  unfolding headBytes
+  head-length = omega (arith, length-append (roundBytes (S .round)) (d ∷ []))
+
+  four-stores : (l : List ℕ) → 4 ≤ length l
+      → set (set (set (set l 0 tag) 1 (S .number)) 2 (S .n)) 3 (S .t) ≡ putAt 0 (tag ∷ S .number ∷ S .n ∷ S .t ∷ []) l
+  unfolding putAt
+  four-stores l h = sets-eq (tag ∷ S .number ∷ S .n ∷ S .t ∷ []) l 0 h
+
+  -- four stores in a buffer l, the round's number put behind them up to a, and a store at a
+  module _ (l : List ℕ) (room : 16 ≤ length l) {a : ℕ} {r : List ℕ} (e : a ≡ 4 + length (roundBytes (S .round)))
+      (p : r ≡ putAt 4 (roundBytes (S .round)) (set (set (set (set l 0 tag) 1 (S .number)) 2 (S .n)) 3 (S .t))) where
+    stored : r ≡ putAt 0 ((tag ∷ S .number ∷ S .n ∷ S .t ∷ []) ++ roundBytes (S .round)) l
+    stored =
+        let bs = roundBytes (S .round) in
+        p ∙ ap (putAt 4 bs) (four-stores l (omega arith)) ∙ put-put 0 4 (tag ∷ S .number ∷ S .n ∷ S .t ∷ []) bs l refl (omega arith)
+
+    stored-length : length r ≡ length l
+    stored-length =
+        let bs = roundBytes (S .round) in
+        ap length stored ∙ put-length 0 ((tag ∷ S .number ∷ S .n ∷ S .t ∷ []) ++ bs) l (omega (arith, round-length (S .round)))
+
+    pub head-room : a < length r
+    head-room = omega (arith, round-length (S .round), stored-length)
+
+    pub head-kept : length (set r a d) ≡ length l
+    head-kept = length-set r a d ∙ stored-length
+
+    pub head-put : set r a d ≡ putAt 0 (headBytes tag S d) l
+    unfolding headBytes
+    head-put =
+        let bs = (tag ∷ S .number ∷ S .n ∷ S .t ∷ []) ++ roundBytes (S .round) in
+        put-byte a d r head-room ∙ ap (putAt a (d ∷ [])) stored
+        ∙ put-put 0 a bs (d ∷ []) l (omega arith) (omega (arith, round-length (S .round)))
 
   -- the bytes bs that are put behind the head in a buffer l
   put-behind : (bs l : List ℕ) {a : ℕ} {h m : List ℕ} → a ≡ length (headBytes tag S d) → h ≡ putAt 0 (headBytes tag S d) l

@@ -1,18 +1,26 @@
 -- All that is used of a challenge: it is below q, and the message of a dealing is told by its members' figures.
-use mathlib.Core.Path.{_≡_, refl, ap, _∙_}
-use mathlib.Core.List.{List, [], _∷_, _++_}
-use Prim.Native.Nat.{ℕ, _-_, _≤_, _<_}
+use mathlib.Core.Path.{_≡_, refl, sym, ap, _∙_}
+use mathlib.Core.Bool.{Bool, true, false}
+use mathlib.Core.List.{List, [], _∷_, _++_, append-assoc}
+use Prim.Native.Nat.{ℕ, _-_, _^_, _≤_, _<_}
 use native.Mathlib.Nat.{mod-lt}
 use native.Mathlib.Omega.{arith}
+use borrow.Author.Tests.{eqb-true, eq-eqb}
+use lib.ListN.{length, drop, length-append}
+use lib.Dec.{eqb}
 use Rattle.words.specs.Lists.{All, upFrom}
-use Rattle.words.specs.Bytes.{wordsBytes}
+use Rattle.words.specs.Bytes.{wordAt, wordBytes, wordsBytes}
 use Rattle.words.proofs.Lists.{All-each, map-length, map-all, up-length}
+use Rattle.words.proofs.Tests.{false-true}
+use Rattle.words.proofs.Bytes.{word-length, word-back}
 use Rattle.sharing.specs.Setting.{ProperSetting, members}
 use Rattle.sharing.specs.Carried.{CheckPolynomial}
 use Rattle.sharing.specs.declared.Setting.{Setting}
-use Rattle.challenge.specs.Message.{dealingTag, message, bytesOver, exponentOf, challengeOf, dealingMessage, coefficientMessage, checkPolynomial}
-use Rattle.challenge.specs.Claims.{ChallengeLow}
+use Rattle.challenge.specs.Message.{dealingTag, coefficientTag, headBytes, roundBytes, message, bytesOver, roundlessHead, roundlessMessage, exponentOf, challengeOf}
+use Rattle.challenge.specs.Message.{dealingFigures, shareFigures, coefficientFigures, dealingMessage, shareMessage, coefficientMessage, checkPolynomial}
+use Rattle.challenge.specs.Claims.{ChallengeLow, RoundZero, RoundHashed}
 use Rattle.records.proofs.Members.{each-members}
+use Rattle.challenge.proofs.Buffers.{round-none, round-some}
 
 pub order-positive : {S : Setting} → ProperSetting S → 0 < S .group .q
 order-positive P = omega (arith, P .proper .prime-q .above-one)
@@ -31,6 +39,51 @@ check-polynomial S P d v Y =
       size = map-length f ks ∙ up-length 0 (S .n - S .t);
       low = map-all f (λ c. c < S .group .q) ks (All-each ks (λ k. challenge-low S P (coefficientMessage S d v Y k)));
     }
+
+-- in round 0 the head is that of 01
+head-of-zero : (S : Setting) → S .round ≡ 0 → (tag d : ℕ) → headBytes tag S d ≡ roundlessHead tag S d
+unfolding headBytes roundlessHead
+head-of-zero S e tag d = ap (λ (bs : List ℕ). tag ∷ S .number ∷ S .n ∷ S .t ∷ (bs ++ (d ∷ []))) (round-none (S .round) e)
+
+pub round-zero : RoundZero
+unfolding dealingMessage shareMessage coefficientMessage
+round-zero S e d =
+    let of-01 : (tag : ℕ) (rest : List ℕ) → message tag S d rest ≡ roundlessMessage tag S d rest =
+    λ tag rest. ap (λ (h : List ℕ). h ++ rest) (head-of-zero S e tag d) in
+    record {
+      dealing = λ v Y a1 a2. of-01 dealingTag (dealingFigures (S .n) v Y a1 a2);
+      share = λ tag i y Y Z a1 a2. of-01 tag (shareFigures i y Y Z a1 a2);
+      coefficient = λ v Y k. of-01 coefficientTag (coefficientFigures (S .n) v Y k);
+    }
+
+-- what stands behind t tells the round
+round-told : (r s : ℕ) → r < 2 ^ 32 → s < 2 ^ 32 → (x y : List ℕ) → length x ≡ length y → roundBytes r ++ x ≡ roundBytes s ++ y → r ≡ s
+round-told r s h k x y e f = by-tests (eqb r 0) (eqb s 0) refl refl
+  where
+    sizes : length (roundBytes r) ≡ length (roundBytes s)
+    sizes = omega (arith, e, length-append (roundBytes r) x, length-append (roundBytes s) y, ap length f)
+
+    none : (w : ℕ) → eqb w 0 ≡ true → length (roundBytes w) ≡ 0
+    none w t = ap length (round-none w (eqb-true w 0 t))
+
+    some : (w : ℕ) → eqb w 0 ≡ false → roundBytes w ≡ wordBytes w
+    some w t = round-some w (λ z. false-true (sym t ∙ eq-eqb w 0 z))
+
+    by-tests : (a b : Bool) → eqb r 0 ≡ a → eqb s 0 ≡ b → r ≡ s
+    by-tests true true p q = eqb-true r 0 p ∙ sym (eqb-true s 0 q)
+    by-tests true false p q = absurd (omega (arith, sizes, none r p, ap length (some s q), word-length s))
+    by-tests false true p q = absurd (omega (arith, sizes, none s q, ap length (some r p), word-length r))
+    by-tests false false p q =
+        sym (word-back r x h)
+        ∙ ap (λ (t : List ℕ). wordAt t 0) (ap (λ (t : List ℕ). t ++ x) (sym (some r p)) ∙ f ∙ ap (λ (t : List ℕ). t ++ y) (some s q))
+        ∙ word-back s y k
+
+pub round-hashed : RoundHashed
+unfolding headBytes
+round-hashed S T h k tag₁ tag₂ d e x y l f =
+    let same : roundBytes (S .round) ++ (d ∷ x) ≡ roundBytes (T .round) ++ (e ∷ y) =
+    sym (append-assoc (roundBytes (S .round)) (d ∷ []) x) ∙ ap (drop 4) f ∙ append-assoc (roundBytes (T .round)) (e ∷ []) y in
+    round-told (S .round) (T .round) h k (d ∷ x) (e ∷ y) (omega arith) same
 
 pub bytes-same : (f g : ℕ → List ℕ) (is : List ℕ) → All (λ i. f i ≡ g i) is → bytesOver f is ≡ bytesOver g is
 unfolding bytesOver

@@ -8,7 +8,7 @@ ghost use Rattle.words.specs.Bytes.{wordsBytes, putAt};
 ghost use Rattle.sha256.specs.Hash.{hash};
 ghost use Rattle.sharing.specs.Setting.{ProperSetting};
 ghost use Rattle.records.specs.Layout.{entry};
-ghost use Rattle.challenge.specs.Message.{coefficientTag, headBytes, exponentOf, challengeOf};
+ghost use Rattle.challenge.specs.Message.{coefficientTag, roundBytes, headBytes, exponentOf, challengeOf};
 ghost use Rattle.challenge.specs.Message.{dealingMessage, shareMessage, coefficientMessage, checkPolynomial};
 use crate::ShareFigures;
 use group::Exponent;
@@ -34,7 +34,20 @@ fn challenge(q: u32, m: &[u8], k: usize) -> Exponent
     Exponent((first % (q as u64)) as u32)
 }
 
-// Writes the head of a message, a byte each for the tag, the group's number, n, t and the dealer, and answers where it ends.
+// Writes the round's number from `at` on, nothing in round 0, and answers where it ends. Internal: callers ensure room for it.
+fn put_round(m: &mut [u8], at: usize, round: u32) -> usize
+    requires { ⌜ at + 4 ≤ length (now m) ⌝ }
+    ensures { λ k. ⌜ (k ≡ at + length (roundBytes round)) × (now (m .exit) ≡ putAt at (roundBytes round) (now (m .entry))) ⌝ }
+{
+    if round == 0 {
+        return at;
+    }
+    words::put_word(m, at, round);
+    at + 4
+}
+
+// Writes the head of a message, a byte each for the tag, the group's number, n and t, then the round's number, and a byte for the
+// dealer, and answers where it ends.
 // Internal: callers ensure a proper setting, a dealer at most n and 16 bytes of room.
 fn head(m: &mut [u8], tag: u8, s: Setting, d: u32) -> usize
     requires { ⌜ (ProperSetting s) × (d ≤ s .n) × (16 ≤ length (now m)) ⌝ }
@@ -44,8 +57,9 @@ fn head(m: &mut [u8], tag: u8, s: Setting, d: u32) -> usize
     m[1] = s.number as u8;
     m[2] = s.n as u8;
     m[3] = s.t as u8;
-    m[4] = d as u8;
-    5
+    let at = put_round(m, 4, s.round);
+    m[at] = d as u8;
+    at + 1
 }
 
 // Writes two words from `at` on. Internal: callers ensure room for them.

@@ -17,7 +17,7 @@ use Rattle.sharing.specs.Answer.{degreeProduct}
 use Rattle.sharing.specs.Figures.{small}
 use Rattle.records.specs.Layout.{agrees, entry, recordAt}
 use Rattle.records.specs.Keys.{isKey, keyChecks}
-use Rattle.challenge.specs.Message.{headBytes, bytesOver, exponentOf, challengeOf, dealingMessage, shareMessage, coefficientMessage, checkPolynomial}
+use Rattle.challenge.specs.Message.{roundBytes, headBytes, bytesOver, exponentOf, challengeOf, dealingMessage, shareMessage, coefficientMessage, checkPolynomial}
 use Rattle.equality.specs.Equality.{announced}
 use Rattle.dealing.specs.Dealing.{addressChecks, vIn, YIn, rIn, cIn, judgeSizeChecks, isLineFor, lineChecks, dealingFormChecks, recomputed, rangeChecks, equationChecks, judgeDealingIn}
 use Rattle.share.specs.Share.{membersChecks, shareRecomputed, shareInputChecks, shareFormChecks, shareAdmissionChecks, shareFigureChecks, judgeShareIn}
@@ -41,5 +41,5 @@ pub record Answers : Type 0 where
   pub forged : Share 1 8 4 6 2 4
 
 pub answers : Answers
-unfolding wordAt wordBytes wordsBytes recordBytes recordIn add mul sub inv K initial zeroBits bits64 pad blocks block later W schedule T₁ T₂ round rounds plus compress intermediate hashValue hash pow groupOf isElement isExponent isMember gapsAt weightAt weightsOf powersProduct degreeProduct agrees entry recordAt isKey keyChecks headBytes bytesOver exponentOf challengeOf dealingMessage shareMessage coefficientMessage checkPolynomial announced addressChecks vIn YIn rIn cIn judgeSizeChecks isLineFor lineChecks dealingFormChecks recomputed rangeChecks equationChecks judgeDealingIn membersChecks shareRecomputed shareInputChecks shareFormChecks shareAdmissionChecks shareFigureChecks judgeShareIn
+unfolding wordAt wordBytes wordsBytes recordBytes recordIn add mul sub inv K initial zeroBits bits64 pad blocks block later W schedule T₁ T₂ round rounds plus compress intermediate hashValue hash pow groupOf isElement isExponent isMember gapsAt weightAt weightsOf powersProduct degreeProduct agrees entry recordAt isKey keyChecks roundBytes headBytes bytesOver exponentOf challengeOf dealingMessage shareMessage coefficientMessage checkPolynomial announced addressChecks vIn YIn rIn cIn judgeSizeChecks isLineFor lineChecks dealingFormChecks recomputed rangeChecks equationChecks judgeDealingIn membersChecks shareRecomputed shareInputChecks shareFormChecks shareAdmissionChecks shareFigureChecks judgeShareIn
 answers = record { first = refl; uncarried = refl; second = refl; share-1 = refl; share-2 = refl; share-3 = refl; forged = refl }

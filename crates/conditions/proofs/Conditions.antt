@@ -101,7 +101,7 @@ module _ {b : List ℕ} {s : Secret} (K : Known b (9 ∷ 16 ∷ 8 ∷ 4 ∷ []) 
   carried = of-accepted K _ (polynomialOf 1, carries .0) (polynomialOf 2, carries .1)
 
 -- ---- two boards with the same commitments
-same : {b c vs : List ℕ} {s r : Secret} → Known b vs s → Known c vs r → SameDealings judges small b c
+same : {b c vs : List ℕ} {s r : Secret} → Known b vs s → Known c vs r → SameDealings judges small small b c
 same {b} {c} K L =
     record {
       dealers =

@@ -1,4 +1,4 @@
--- Boards of group 1 with four members and threshold 2, record by record. Their bytes are the files of the same names in tests/forged.
+-- Boards of round 0, group 1 with four members and threshold 2, record by record. Their bytes are the files of the same names in tests/forged.
 use mathlib.Core.List.{List, _++_}
 use Prim.Native.Nat.{ℕ}
 use Rattle.words.specs.Bytes.{recordBytes}
@@ -6,16 +6,16 @@ use Rattle.records.specs.Layout.{keyLayout, lineLayout, openingLayout, shareLay
 
 -- ---- the bytes of a record of each kind
 abbrev pub key : ℕ → ℕ → List ℕ
-key i y = recordBytes (keyLayout i y)
+key i y = recordBytes (keyLayout i y 0)
 
 abbrev pub line : ℕ → ℕ → ℕ → ℕ → ℕ → ℕ → List ℕ
-line d i v Y r c = recordBytes (lineLayout d i v Y r c)
+line d i v Y r c = recordBytes (lineLayout d i v Y r c 0)
 
 abbrev pub opening : ℕ → ℕ → List ℕ
-opening d u = recordBytes (openingLayout d u)
+opening d u = recordBytes (openingLayout d u 0)
 
 abbrev pub share : ℕ → ℕ → ℕ → ℕ → ℕ → List ℕ
-share d i Z c r = recordBytes (shareLayout d i Z c r)
+share d i Z c r = recordBytes (shareLayout d i Z c r 0)
 
 -- ---- what the boards are made of
 abbrev pub keys : List ℕ

@@ -34,7 +34,7 @@ pub record ConditionsMet : Type 0 where
   pub proper : ProperSetting small
   pub opened : AllRecoverable judges small openedBoard polynomialOf
   pub silent : AllRecoverable judges small silentBoard polynomialOf
-  pub same : SameDealings judges small openedBoard silentBoard
+  pub same : SameDealings judges small small openedBoard silentBoard
   pub count : 2 ≤ length (acceptedDealers judges small openedBoard)
   pub draws : DrawIs openedBoard 2 × DrawIs silentBoard 2
 
@@ -47,7 +47,7 @@ pub record OtherConditions (b : List ℕ) : Type 0 where
 
 -- two such boards with the same accepted dealings
 abbrev pub Compared : List ℕ → List ℕ → Type 0
-Compared b c = OtherConditions b × OtherConditions c × SameDealings judges small b c
+Compared b c = OtherConditions b × OtherConditions c × SameDealings judges small small b c
 
 -- every accepted dealing is carried by a polynomial of degree below t
 abbrev pub AllCarried : List ℕ → Type 0

@@ -29,8 +29,8 @@ abbrev pub powerOf : Group → List ℕ → List ℕ → ℕ → ℕ
 powerOf G bs xs i = pow (G .p) (entry bs i) (entry xs i)
 
 -- the line of member i
-abbrev pub lineOf : Group → ℕ → List ℕ → List ℕ → List ℕ → List ℕ → ℕ → ℕ → Record
-lineOf G d vs Ys xs ws c i = lineLayout d i (entry vs i) (entry Ys i) (response G (entry ws i) c (entry xs i)) c
+abbrev pub lineOf : Setting → ℕ → List ℕ → List ℕ → List ℕ → List ℕ → ℕ → ℕ → Record
+lineOf S d vs Ys xs ws c i = lineLayout d i (entry vs i) (entry Ys i) (response (S .group) (entry ws i) c (entry xs i)) c (S .round)
 
 -- the base g for every member
 bases : (g n : ℕ) → n ≤ 31 → Agree n (entry (replicate 31 g)) (λ i. g)
@@ -61,7 +61,7 @@ module _ (S : Setting) (few : S .n ≤ 31) (d : ℕ) (ys f ws xs vs Ys a1s a2s :
       → vs ≡ filled 31 (map (powerOf G gs xs) (members n)) → Ys ≡ filled 31 (map (powerOf G ys xs) (members n))
       → a1s ≡ filled 31 (map (powerOf G gs ws) (members n)) → a2s ≡ filled 31 (map (powerOf G ys ws) (members n))
       → c ≡ challengeOf S (dealingMessage S d (entry vs) (entry Ys) (entry a1s) (entry a2s))
-      → recordsBytes (lineOf G d vs Ys xs ws c) (members m) ≡ writtenDealing S d ys f ws
+      → recordsBytes (lineOf S d vs Ys xs ws c) (members m) ≡ writtenDealing S d ys f ws
   unfolding writtenV writtenY writtenC writtenR writtenLine writtenDealing
   lines-are {m} {c} all x v y a1 a2 k =
       let value = filled-agree (valueAt (G .q) f) n x in
@@ -70,9 +70,9 @@ module _ (S : Setting) (few : S .n ≤ 31) (d : ℕ) (ys f ws xs vs Ys a1s a2s :
       let Y-is = powers-are G n ys xs (given ys) value y in
       let a1-is = powers-are G n gs ws base (given ws) a1 in
       let a2-is = powers-are G n ys ws (given ys) (given ws) a2 in
-      let line : (i : ℕ) → 1 ≤ i → i ≤ n → lineOf G d vs Ys xs ws c i ≡ writtenLine G d ys f ws c i = λ i l m j.
-      lineLayout d i (v-is .at i l m j) (Y-is .at i l m j) (response G (entry ws i) c (value .at i l m j)) c in
-      ap (λ (x : ℕ). recordsBytes (lineOf G d vs Ys xs ws c) (members x)) all
-      ∙ records-same (lineOf G d vs Ys xs ws c) (writtenLine G d ys f ws c) (members n)
-      (each-members (λ i. lineOf G d vs Ys xs ws c i ≡ writtenLine G d ys f ws c i) n line)
-      ∙ ap (λ (x : ℕ). recordsBytes (writtenLine G d ys f ws x) (members n)) (k ∙ challenge-same S d v-is Y-is a1-is a2-is)
+      let line : (i : ℕ) → 1 ≤ i → i ≤ n → lineOf S d vs Ys xs ws c i ≡ writtenLine S d ys f ws c i = λ i l m j.
+      lineLayout d i (v-is .at i l m j) (Y-is .at i l m j) (response G (entry ws i) c (value .at i l m j)) c (S .round) in
+      ap (λ (x : ℕ). recordsBytes (lineOf S d vs Ys xs ws c) (members x)) all
+      ∙ records-same (lineOf S d vs Ys xs ws c) (writtenLine S d ys f ws c) (members n)
+      (each-members (λ i. lineOf S d vs Ys xs ws c i ≡ writtenLine S d ys f ws c i) n line)
+      ∙ ap (λ (x : ℕ). recordsBytes (writtenLine S d ys f ws x) (members n)) (k ∙ challenge-same S d v-is Y-is a1-is a2-is)

@@ -1,18 +1,18 @@
 -- A judged dealing: accepted exactly if its figures are proper and every equation holds, and where one fails refused by its number.
 -- What is accepted has commitments for which the judge's own check polynomial passes.
 use mathlib.Core.Path.{_≡_, refl, sym, _∙_}
-use mathlib.Core.Bool.{Bool, true, _&&_}
+use mathlib.Core.Bool.{Bool, true}
 use mathlib.Core.List.{List, _++_}
 use mathlib.Core.Logic.{inl, inr}
 use Prim.Native.Nat.{ℕ, _≤_}
 use borrow.Author.Tests.{eqb-true, eq-eqb, ne-eqb}
 use lib.Dec.{eqb}
 use Rattle.words.specs.Lists.{all}
-use Rattle.words.specs.Checks.{Check, value, outcome, Met}
+use Rattle.words.specs.Checks.{Check, value, outcome, Met, FirstUnmet}
 use Rattle.words.proofs.Lists.{map-length, map-all, up-length}
 use Rattle.words.proofs.Tests.{and-true, true-and, equal-true, true-equal, true-all}
 use Rattle.words.proofs.Checks.{value-exactly, refused-exactly}
-use Rattle.words.proofs.Stages.{met-both, rest-outcome}
+use Rattle.words.proofs.Stages.{met-both, rest-outcome, rest-first, front-outcome}
 use Rattle.group.specs.Element.{isElement, isExponent}
 use Rattle.group.specs.declared.Group.{Group}
 use Rattle.group.proofs.Elements.{exponent-true, true-exponent}
@@ -21,12 +21,13 @@ use Rattle.sharing.specs.Carried.{Commitments}
 use Rattle.sharing.specs.declared.Setting.{Setting}
 use Rattle.sharing.proofs.Degree.{product-passes}
 use Rattle.sharing.proofs.Theorems.{uncarried-one-value}
-use Rattle.records.specs.Layout.{isLineRecord, isRoundless, dealerOf, memberOf, recordOf}
+use Rattle.records.specs.Layout.{isLineRecord, dealerOf, memberOf, roundOf, recordOf}
+use Rattle.records.specs.Keys.{keyChecks}
 use Rattle.records.proofs.Members.{each-members, members-exactly, members-false}
 use Rattle.challenge.specs.Message.{checkPolynomial}
 use Rattle.challenge.proofs.Challenges.{check-polynomial}
-use Rattle.dealing.specs.Dealing.{vIn, YIn, rIn, cIn, vsIn, isLineFor, isLineOf, lineChecks, dealingFormChecks, recomputed, rangeChecks, equationChecks, lineFigureChecks, judgeDealingChecks, judgeDealingIn}
-use Rattle.dealing.specs.Claims.{Line, PostedDealing, AcceptedDealing, DealingExactly, EquationRefused, DealingRefused, AcceptedPasses, AcceptedUncarried}
+use Rattle.dealing.specs.Dealing.{addressChecks, judgeSizeChecks, vIn, YIn, rIn, cIn, vsIn, isLineFor, isLineOf, isLineOfRound, lineChecks, dealingFormChecks, recomputed, rangeChecks, equationChecks, lineFigureChecks, judgeDealingChecks, judgeDealingIn}
+use Rattle.dealing.specs.Claims.{Line, PostedDealing, AcceptedDealing, DealingExactly, EquationRefused, DealingRefused, DealingOfOtherRound, AcceptedPasses, AcceptedUncarried}
 use Rattle.dealing.proofs.Settled.{FormedDealing, met-keys, keys-met, met-formed, formed-met}
 
 module _ (S : Setting) (d : ℕ) (ys b : List ℕ) where
@@ -37,19 +38,18 @@ module _ (S : Setting) (d : ℕ) (ys b : List ℕ) where
   equalAt i = eqb (cIn b i) (recomputed S d ys (vIn b) (YIn b) (rIn b) (cIn b))
 
   -- ---- the form of the line of member i
-  line : (i : ℕ) → isLineOf d b i ≡ true → isElement G (vIn b i) ≡ true → isElement G (YIn b i) ≡ true
+  line : (i : ℕ) → isLineOf d b i ≡ true → isLineOfRound (S .round) b i ≡ true → isElement G (vIn b i) ≡ true → isElement G (YIn b i) ≡ true
       → isExponent G (rIn b i) ≡ true → isExponent G (cIn b i) ≡ true → Line S d b i
   unfolding isLineFor
-  line i e v Y r c =
+  line i e o v Y r c =
       let l = recordOf b i in
-      let form = and-true (isLineRecord l && isRoundless l) _ e in
-      let kind = and-true (isLineRecord l) (isRoundless l) (form .0) in
+      let form = and-true (isLineRecord l) _ e in
       let address = equal-true (dealerOf l) d (memberOf l) i (form .1) in
       record {
-        kind = kind .0;
-        roundless = kind .1;
+        kind = form .0;
         dealer = address .0;
         member = address .1;
+        round = eqb-true (roundOf l) (S .round) o;
         v-element = v;
         Y-element = Y;
         r-low = exponent-true G (rIn b i) r;
@@ -60,8 +60,7 @@ module _ (S : Setting) (d : ℕ) (ys b : List ℕ) where
   unfolding isLineFor
   line-form i L =
       let l = recordOf b i in
-      true-and (isLineRecord l && isRoundless l) _ (true-and (isLineRecord l) (isRoundless l) (L .kind) (L .roundless))
-      (true-equal (dealerOf l) d (memberOf l) i (L .dealer) (L .member))
+      true-and (isLineRecord l) _ (L .kind) (true-equal (dealerOf l) d (memberOf l) i (L .dealer) (L .member))
 
   -- ---- the stages before the equations are met exactly by figures that are proper one by one
   abbrev form : List Check
@@ -86,21 +85,26 @@ module _ (S : Setting) (d : ℕ) (ys b : List ℕ) where
         keys = met-keys G ys (F .keys);
         size = F .size;
         lines = λ i h l.
-            line i (each _ (F .lines .0) i h l) (each _ (elements .0) i h l) (each _ (elements .1) i h l) (each _ (exponents .0) i h l) (each _ (exponents .1) i h l);
+            line i (each _ (F .lines .0) i h l) (each _ (F .lines .1 .0) i h l) (each _ (elements .0) i h l) (each _ (elements .1) i h l) (each _ (exponents .0) i h l) (each _ (exponents .1) i h l);
       }
 
   module _ (P : PostedDealing S d ys b) where
-    form-met : Met form
+    pub posted-formed : FormedDealing S d ys b
     unfolding lineChecks
-    form-met =
-        formed-met S d ys b
-        (record {
+    posted-formed =
+        record {
           dealer = P .dealer;
           keys-size = P .keys-size;
           size = P .size;
           keys = keys-met G ys (P .keys);
-          lines = (members-exactly (isLineOf d b) (S .n) .1 (λ i h l. line-form i (P .lines i h l)), tt);
-        })
+          lines = (
+            members-exactly (isLineOf d b) (S .n) .1 (λ i h l. line-form i (P .lines i h l)),
+            (members-exactly (isLineOfRound (S .round) b) (S .n) .1 (λ i h l. eq-eqb _ (S .round) (P .lines i h l .round)), tt),
+          );
+        }
+
+    form-met : Met form
+    form-met = formed-met S d ys b posted-formed
 
     ranges-met : Met ranges
     unfolding rangeChecks
@@ -162,6 +166,15 @@ dealing-exactly S d ys b = (dealing-accepted S d ys b, accepts-dealing S d ys b)
 
 pub dealing-refused : DealingRefused
 dealing-refused = equations-refused
+
+pub dealing-of-other-round : DealingOfOtherRound
+unfolding judgeDealingIn dealingFormChecks lineChecks
+dealing-of-other-round S d ys b m k e i h l n =
+    let keys = keyChecks (S .group) ys in
+    let other = members-false (isLineOfRound (S .round) b) (S .n) i h l (ne-eqb (roundOf (recordOf b i)) (S .round) n) in
+    let lines : FirstUnmet 17 (lineChecks S d b) = inr (e, inl (other, refl)) in
+    let formed = rest-first (addressChecks S d ++ judgeSizeChecks S ys b) (keys ++ lineChecks S d b) 17 m (rest-first keys (lineChecks S d b) 17 k lines) in
+    sym (front-outcome (dealingFormChecks S d ys b) (lineFigureChecks S d ys b) 17 formed tt)
 
 -- the figures' stage decides what is formed, on a board too, whose form and keys are judged
 pub figures-decide : (S : Setting) (d : ℕ) (ys b : List ℕ) → FormedDealing S d ys b

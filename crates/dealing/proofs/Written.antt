@@ -11,39 +11,40 @@ use Rattle.words.specs.Checks.{Check, value, refused}
 use Rattle.words.specs.Bytes.{recordWords}
 use Rattle.words.specs.declared.Record.{Record}
 use Rattle.words.proofs.Lists.{map-same, up-length}
+use Rattle.words.proofs.Tests.{true-equal}
 use Rattle.words.proofs.Checks.{if-met, if-unmet, value-exactly, refused-exactly}
 use Rattle.field.specs.Polynomial.{valueAt}
 use Rattle.group.specs.Power.{pow}
 use Rattle.group.specs.Element.{isElement}
 use Rattle.group.specs.declared.Group.{Group}
 use Rattle.group.proofs.Elements.{generator-element, power-element}
-use Rattle.sharing.specs.Setting.{ProperSetting, settingIn, roundChecks, judged, judgedElse, members}
+use Rattle.sharing.specs.Setting.{ProperSetting, settingIn, inRound, roundChecks, judged, judgedElse, members}
 use Rattle.sharing.specs.Carried.{powersAt, Carries}
 use Rattle.sharing.specs.declared.Round.{Round}
 use Rattle.sharing.specs.declared.Setting.{Setting}
-use Rattle.sharing.proofs.Rounds.{round-proper, judged-in, judged-else-in, judged-exactly}
+use Rattle.sharing.proofs.Rounds.{round-proper, proper-in-round, judged-in, judged-else-in, judged-exactly}
 use Rattle.sharing.proofs.Degree.{passed-product}
 use Rattle.sharing.proofs.Theorems.{carried-passes}
-use Rattle.records.specs.Layout.{isLineRecord, isRoundless, dealerOf, memberOf, vOf, YOf, rOf, cOf, entry, recordOf}
+use Rattle.records.specs.Layout.{isLineRecord, dealerOf, memberOf, roundOf, vOf, YOf, rOf, cOf, entry, recordOf}
 use Rattle.records.specs.Keys.{isKey}
 use Rattle.records.proofs.Layouts.{laid-agrees}
-use Rattle.records.proofs.Members.{each-members, key-element, entry-all}
+use Rattle.records.proofs.Members.{each-members, member-exactly, key-element, entry-all}
 use Rattle.records.proofs.Posted.{member-word, element-word, exponent-word, records-length, record-back}
 use Rattle.challenge.proofs.Challenges.{challenge-low, check-polynomial}
 use Rattle.equality.specs.Equality.{announced}
 use Rattle.equality.proofs.Equal.{response-low, announced-back}
-use Rattle.dealing.specs.Dealing.{writtenV, writtenY, writtenC, writtenR, writtenLine, writtenDealing, writeDealingChecks, writeDealingIn, writeDealingOutcome, lentDealingIn, lentDealing, judgeDealingChecks, judgeDealingIn, judgeDealingOutcome, vIn, YIn, rIn, cIn, vsIn, recomputed}
-use Rattle.dealing.specs.Claims.{Line, DegreeEquation, AcceptedDealing, DealingComplete, WrittenCarried, LentDealing, LentDealingKept, DealingByRound}
+use Rattle.dealing.specs.Dealing.{addressChecks, judgeSizeChecks, lineChecks, writtenV, writtenY, writtenC, writtenR, writtenLine, writtenDealing, writeDealingChecks, writeDealingIn, writeDealingOutcome, lentDealingIn, lentDealing, judgeDealingChecks, judgeDealingIn, judgeDealingOutcome, vIn, YIn, rIn, cIn, vsIn, recomputed}
+use Rattle.dealing.specs.Claims.{Line, DegreeEquation, AcceptedDealing, DealingComplete, WrittenForOtherRound, WrittenCarried, SameCommitments, LentDealing, LentDealingKept, DealingByRound}
 use Rattle.dealing.proofs.Entries.{challenge-same}
 use Rattle.dealing.proofs.Settled.{WritableDealing, writable}
-use Rattle.dealing.proofs.Judged.{accepts-dealing}
+use Rattle.dealing.proofs.Judged.{accepts-dealing, posted-formed, dealing-of-other-round}
 
 pub value-writable : (S : Setting) (d : ℕ) (ys f ws : List ℕ) (room : ℕ) → writeDealingIn S d ys f ws room ≡ value tt → WritableDealing S d ys f ws
 unfolding writeDealingIn
 value-writable S d ys f ws room e =
     writable S d ys f ws room (value-exactly Unit (writeDealingChecks S d ys f ws room) tt .0 e) .0
 
-module _ (S : Setting) (P : ProperSetting S) (d : ℕ) (ys f ws : List ℕ) (W : WritableDealing S d ys f ws) where
+module _ (S : Setting) (P : ProperSetting S) (word : S .round < 2 ^ 32) (d : ℕ) (ys f ws : List ℕ) (W : WritableDealing S d ys f ws) where
   abbrev G : Group
   G = S .group
 
@@ -54,7 +55,7 @@ module _ (S : Setting) (P : ProperSetting S) (d : ℕ) (ys f ws : List ℕ) (W :
   c = writtenC S d ys f ws
 
   abbrev line : ℕ → Record
-  line = writtenLine G d ys f ws c
+  line = writtenLine S d ys f ws c
 
   -- ---- proper figures
   g-element : isElement G (G .g .0) ≡ true
@@ -91,8 +92,7 @@ module _ (S : Setting) (P : ProperSetting S) (d : ℕ) (ys f ws : List ℕ) (W :
       let Y = element-word P (writtenY G ys f i) (Y-element i h l) in
       let r = exponent-word P (writtenR G f ws c i) (r-low i) in
       let low = exponent-word P c c-low in
-      let spare : 0 < 2 ^ 32 = omega arith in
-      (kind, (dealer, (member, (v, (Y, (r, (low, (spare, tt))))))))
+      (kind, (dealer, (member, (v, (Y, (r, (low, (word, tt))))))))
 
   module _ (i : ℕ) (h : 1 ≤ i) (l : i ≤ S .n) where
     line-is : recordOf bytes i ≡ line i
@@ -120,9 +120,9 @@ module _ (S : Setting) (P : ProperSetting S) (d : ℕ) (ys f ws : List ℕ) (W :
     line-proper =
         record {
           kind = ap (λ (r : Record). isLineRecord r) line-is ∙ laid-agrees (line i);
-          roundless = ap (λ (r : Record). isRoundless r) line-is;
           dealer = ap (λ (r : Record). dealerOf r) line-is;
           member = ap (λ (r : Record). memberOf r) line-is;
+          round = ap (λ (r : Record). roundOf r) line-is;
           v-element = ap (isElement G) v-is ∙ v-element i;
           Y-element = ap (isElement G) Y-is ∙ Y-element i h l;
           r-low = subst (λ (x : ℕ). x < G .q) (sym r-is) (r-low i);
@@ -179,22 +179,39 @@ module _ (S : Setting) (P : ProperSetting S) (d : ℕ) (ys f ws : List ℕ) (W :
         challenge = λ i h l. c-is i h l ∙ sym recomputed-is;
       }
 
+  -- in the round of another number
+  pub refused-elsewhere : (round : ℕ) → (round ≡ S .round → ⊥) → judgeDealingIn (inRound round S) d ys bytes ≡ refused 17
+  unfolding addressChecks judgeSizeChecks lineChecks
+  refused-elsewhere round n =
+      let some = P .n-positive in
+      let F = posted-formed S d ys bytes (written-accepted .posted) in
+      dealing-of-other-round (inRound round S) d ys bytes
+      (member-exactly (S .n) d .1 (F .dealer), (true-equal (length ys) (S .n) (length bytes) (32 * S .n) (F .keys-size) (F .size), tt))
+      (F .keys) (F .lines .0) 1 (omega arith) (omega arith) (λ e. n (sym e ∙ line-proper 1 (omega arith) (omega arith) .round))
+
   pub accepted : judgeDealingIn S d ys bytes ≡ value tt
   accepted = accepts-dealing S d ys bytes written-accepted
 
 pub dealing-complete : DealingComplete
-dealing-complete S P d ys f ws e = accepted S P d ys f ws (value-writable S d ys f ws _ e)
+dealing-complete S P k d ys f ws e = accepted S P k d ys f ws (value-writable S d ys f ws _ e)
+
+pub written-for-other-round : WrittenForOtherRound
+written-for-other-round S P k d ys f ws e = refused-elsewhere S P k d ys f ws (value-writable S d ys f ws _ e)
 
 pub written-carried : WrittenCarried
-written-carried S P d ys f ws e = carries S P d ys f ws (value-writable S d ys f ws _ e)
+written-carried S P k d ys f ws e = carries S P k d ys f ws (value-writable S d ys f ws _ e)
+
+pub same-commitments : SameCommitments
+same-commitments S P k d ys f ws e round h us g =
+    written-carried S P k d ys f ws e .powers ∙ sym (written-carried (inRound round S) (proper-in-round round P) h d ys f us g .powers)
 
 -- ---- the lent bytes
 pub lent-dealing : LentDealing
 unfolding writeDealingIn lentDealingIn
-lent-dealing S P d ys f ws out e =
+lent-dealing S P k d ys f ws out e =
     let checks = writeDealingChecks S d ys f ws (length out) in
     ap (judgeDealingIn S d ys) (if-met (writtenDealing S d ys f ws) out checks (value-exactly Unit checks tt .0 e))
-    ∙ accepted S P d ys f ws (value-writable S d ys f ws (length out) e)
+    ∙ accepted S P k d ys f ws (value-writable S d ys f ws (length out) e)
 
 pub lent-dealing-kept : LentDealingKept
 unfolding writeDealingIn lentDealingIn

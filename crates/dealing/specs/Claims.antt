@@ -2,30 +2,30 @@
 -- setting; DealingByRound reads them off for a round.
 use mathlib.Core.Path.{_≡_}
 use mathlib.Core.Bool.{true}
-use mathlib.Core.List.{List}
+use mathlib.Core.List.{List, _++_}
 use mathlib.Core.Logic.{_↔_}
-use Prim.Native.Nat.{ℕ, _*_, _<_, _≤_}
+use Prim.Native.Nat.{ℕ, _*_, _^_, _<_, _≤_}
 use lib.ListN.{length, getD}
-use Rattle.words.specs.Lists.{All}
+use Rattle.words.specs.Lists.{All, all}
 use Rattle.words.specs.Checks.{value, refused, Met}
 use Rattle.group.specs.Element.{isElement}
-use Rattle.sharing.specs.Setting.{ProperSetting, settingIn, roundChecks}
+use Rattle.sharing.specs.Setting.{ProperSetting, settingIn, inRound, roundChecks, members}
 use Rattle.sharing.specs.Answer.{degreeProduct}
 use Rattle.sharing.specs.Carried.{Carries, Commitments, Passes, place, AgreeOff}
 use Rattle.sharing.specs.declared.Round.{Round}
 use Rattle.sharing.specs.declared.Setting.{Setting}
-use Rattle.records.specs.Layout.{isLineRecord, isRoundless, dealerOf, memberOf, recordOf}
-use Rattle.records.specs.Keys.{isKey}
+use Rattle.records.specs.Layout.{isLineRecord, dealerOf, memberOf, roundOf, recordOf}
+use Rattle.records.specs.Keys.{isKey, keyChecks}
 use Rattle.challenge.specs.Message.{checkPolynomial}
-use Rattle.dealing.specs.Dealing.{judgeDealingIn, judgeDealingOutcome, vIn, YIn, rIn, cIn, vsIn, recomputed, writtenDealing, writeDealingIn, writeDealingOutcome, lentDealingIn, lentDealing}
+use Rattle.dealing.specs.Dealing.{addressChecks, judgeSizeChecks, isLineOf, judgeDealingIn, judgeDealingOutcome, vIn, YIn, rIn, cIn, vsIn, recomputed, writtenDealing, writeDealingIn, writeDealingOutcome, lentDealingIn, lentDealing}
 
 -- ---- a posted dealing
 -- the line of member i: its form and its figures
 pub record Line (S : Setting) (d : ℕ) (b : List ℕ) (i : ℕ) : Type 0 where
   pub kind : isLineRecord (recordOf b i) ≡ true
-  pub roundless : isRoundless (recordOf b i) ≡ true
   pub dealer : dealerOf (recordOf b i) ≡ d
   pub member : memberOf (recordOf b i) ≡ i
+  pub round : roundOf (recordOf b i) ≡ S .round
   pub v-element : isElement (S .group) (vIn b i) ≡ true
   pub Y-element : isElement (S .group) (YIn b i) ≡ true
   pub r-low : rIn b i < S .group .q
@@ -64,6 +64,15 @@ pub record EquationRefused (S : Setting) (d : ℕ) (ys b : List ℕ) : Type 0 wh
 abbrev pub DealingRefused : Type 0
 DealingRefused = (S : Setting) (d : ℕ) (ys b : List ℕ) → PostedDealing S d ys b → EquationRefused S d ys b
 
+-- ---- rounds
+-- a dealing with a line of another round is refused by 17 where nothing earlier refuses it: the dealer, the sizes, the keys, and the form of
+-- each line
+abbrev pub DealingOfOtherRound : Type 0
+DealingOfOtherRound =
+    (S : Setting) (d : ℕ) (ys b : List ℕ) → Met (addressChecks S d ++ judgeSizeChecks S ys b) → Met (keyChecks (S .group) ys)
+    → all (isLineOf d b) (members (S .n)) ≡ true → (i : ℕ) → 1 ≤ i → i ≤ S .n → (roundOf (recordOf b i) ≡ S .round → ⊥)
+    → judgeDealingIn S d ys b ≡ refused 17
+
 -- ---- from posted figures to demand 3
 -- an accepted dealing has n elements as commitments, for which the judge's own check polynomial passes
 abbrev pub AcceptedPasses : Type 0
@@ -81,23 +90,36 @@ AcceptedUncarried =
     → AgreeOff (place S (vsIn (S .n) b)) ds (checkPolynomial S d (vIn b) (YIn b))
     → getD ds (place S (vsIn (S .n) b)) 0 ≡ getD (checkPolynomial S d (vIn b) (YIn b)) (place S (vsIn (S .n) b)) 0
 
--- ---- a written dealing
+-- ---- a written dealing, in a round whose number is a word, as every lent one is
 -- what is written from proper figures is accepted with the same keys
 abbrev pub DealingComplete : Type 0
 DealingComplete =
-    (S : Setting) → ProperSetting S → (d : ℕ) (ys f ws : List ℕ) → writeDealingIn S d ys f ws (32 * S .n) ≡ value tt
+    (S : Setting) → ProperSetting S → S .round < 2 ^ 32 → (d : ℕ) (ys f ws : List ℕ) → writeDealingIn S d ys f ws (32 * S .n) ≡ value tt
     → judgeDealingIn S d ys (writtenDealing S d ys f ws) ≡ value tt
+
+-- in the round that it is written for: in every other it is refused by 17
+abbrev pub WrittenForOtherRound : Type 0
+WrittenForOtherRound =
+    (S : Setting) → ProperSetting S → S .round < 2 ^ 32 → (d : ℕ) (ys f ws : List ℕ) → writeDealingIn S d ys f ws (32 * S .n) ≡ value tt
+    → (round : ℕ) → (round ≡ S .round → ⊥) → judgeDealingIn (inRound round S) d ys (writtenDealing S d ys f ws) ≡ refused 17
 
 -- and its polynomial carries it
 abbrev pub WrittenCarried : Type 0
 WrittenCarried =
-    (S : Setting) → ProperSetting S → (d : ℕ) (ys f ws : List ℕ) → writeDealingIn S d ys f ws (32 * S .n) ≡ value tt
+    (S : Setting) → ProperSetting S → S .round < 2 ^ 32 → (d : ℕ) (ys f ws : List ℕ) → writeDealingIn S d ys f ws (32 * S .n) ≡ value tt
     → Carries S f (vsIn (S .n) (writtenDealing S d ys f ws))
+
+-- one polynomial, written for two rounds, has the same commitments in both
+abbrev pub SameCommitments : Type 0
+SameCommitments =
+    (S : Setting) → ProperSetting S → S .round < 2 ^ 32 → (d : ℕ) (ys f ws : List ℕ) → writeDealingIn S d ys f ws (32 * S .n) ≡ value tt
+    → (round : ℕ) → round < 2 ^ 32 → (us : List ℕ) → writeDealingIn (inRound round S) d ys f us (32 * S .n) ≡ value tt
+    → vsIn (S .n) (writtenDealing S d ys f ws) ≡ vsIn (S .n) (writtenDealing (inRound round S) d ys f us)
 
 -- the lent bytes are accepted where nothing is refused
 abbrev pub LentDealing : Type 0
 LentDealing =
-    (S : Setting) → ProperSetting S → (d : ℕ) (ys f ws out : List ℕ) → writeDealingIn S d ys f ws (length out) ≡ value tt
+    (S : Setting) → ProperSetting S → S .round < 2 ^ 32 → (d : ℕ) (ys f ws out : List ℕ) → writeDealingIn S d ys f ws (length out) ≡ value tt
     → judgeDealingIn S d ys (lentDealingIn S d ys f ws out) ≡ value tt
 
 -- and stay as they were where a number is refused

@@ -15,7 +15,7 @@ use Rattle.sharing.specs.Setting.{judged, judgedElse, isMember, members}
 use Rattle.sharing.specs.Answer.{degreeProduct}
 use Rattle.sharing.specs.declared.Round.{Round}
 use Rattle.sharing.specs.declared.Setting.{Setting}
-use Rattle.records.specs.Layout.{lineLayout, isLineRecord, isRoundless, dealerOf, memberOf, vOf, YOf, rOf, cOf, entry, recordOf, recordsBytes}
+use Rattle.records.specs.Layout.{lineLayout, isLineRecord, isOfRound, dealerOf, memberOf, vOf, YOf, rOf, cOf, entry, recordOf, recordsBytes}
 use Rattle.records.specs.Keys.{keyChecks}
 use Rattle.challenge.specs.Message.{challengeOf, dealingMessage, checkPolynomial}
 use Rattle.equality.specs.Equality.{announced, response}
@@ -42,11 +42,13 @@ unfoldable pub writtenR : Group → List ℕ → List ℕ → ℕ → ℕ → �
 writtenR G f ws c i = response G (entry ws i) c (valueAt (G .q) f i)
 
 -- the line of member i under the challenge c
-unfoldable pub writtenLine : Group → ℕ → List ℕ → List ℕ → List ℕ → ℕ → ℕ → Record
-writtenLine G d ys f ws c i = lineLayout d i (writtenV G f i) (writtenY G ys f i) (writtenR G f ws c i) c
+unfoldable pub writtenLine : Setting → ℕ → List ℕ → List ℕ → List ℕ → ℕ → ℕ → Record
+writtenLine S d ys f ws c i =
+    let G = S .group in
+    lineLayout d i (writtenV G f i) (writtenY G ys f i) (writtenR G f ws c i) c (S .round)
 
 unfoldable pub writtenDealing : Setting → ℕ → List ℕ → List ℕ → List ℕ → List ℕ
-writtenDealing S d ys f ws = recordsBytes (writtenLine (S .group) d ys f ws (writtenC S d ys f ws)) (members (S .n))
+writtenDealing S d ys f ws = recordsBytes (writtenLine S d ys f ws (writtenC S d ys f ws)) (members (S .n))
 
 -- n keys, t coefficients, n nonces, and room for n lines
 unfoldable pub writeSizeChecks : Setting → List ℕ → List ℕ → List ℕ → ℕ → List Check
@@ -98,14 +100,22 @@ judgeSizeChecks S ys b = 3 unless (eqb (length ys) (S .n) && eqb (length b) (32 
 
 -- a record is a line of the dealer d for member i
 unfoldable pub isLineFor : ℕ → ℕ → Record → Bool
-isLineFor d i r = (isLineRecord r && isRoundless r) && (eqb (dealerOf r) d && eqb (memberOf r) i)
+isLineFor d i r = isLineRecord r && (eqb (dealerOf r) d && eqb (memberOf r) i)
 
 -- the record of member i is a line of the dealer d for him
 abbrev pub isLineOf : ℕ → List ℕ → ℕ → Bool
 isLineOf d b i = isLineFor d i (recordOf b i)
 
+-- the record of member i is of that round
+abbrev pub isLineOfRound : ℕ → List ℕ → ℕ → Bool
+isLineOfRound round b i = isOfRound round (recordOf b i)
+
+-- all lines by their form, and then all by their round
 unfoldable pub lineChecks : Setting → ℕ → List ℕ → List Check
-lineChecks S d b = 4 unless all (isLineOf d b) (members (S .n)) ∷ []
+lineChecks S d b =
+    4 unless all (isLineOf d b) (members (S .n))
+    ∷ 17 unless all (isLineOfRound (S .round) b) (members (S .n))
+    ∷ []
 
 -- the stages before the figures
 unfoldable pub dealingFormChecks : Setting → ℕ → List ℕ → List ℕ → List Check

@@ -10,7 +10,7 @@ ghost use Rattle.sharing.specs.Setting.{ProperSetting, members};
 ghost use Rattle.sharing.specs.Answer.{checkOutcomeOf, degreeProduct};
 ghost use Rattle.records.specs.Layout.{entry};
 ghost use Rattle.challenge.specs.Message.{checkPolynomial};
-ghost use Rattle.dealing.specs.Dealing.{isLineFor, isLineOf, dealingFormChecks, recomputed, rangeChecks, lineFigureChecks};
+ghost use Rattle.dealing.specs.Dealing.{isLineFor, isLineOf, isLineOfRound, dealingFormChecks, recomputed, rangeChecks, lineFigureChecks};
 ghost use Rattle.dealing.specs.Dealing.{judgeDealingIn, judgeDealingOutcome};
 ghost use Rattle.dealing.specs.Columns.{columnsOf, columnChecks};
 use crate::Columns;
@@ -23,8 +23,9 @@ use group::Exponent;
 use group::all_elements;
 use group::all_exponents;
 use records::is_line_record;
-use records::is_roundless;
+use records::is_of_round;
 use records::keys_refusal;
+use records::record_at;
 use sharing::CheckAnswer;
 use sharing::Round;
 use sharing::Setting;
@@ -42,9 +43,6 @@ fn is_line_for(d: u32, i: u32, line: &[u8]) -> bool
 {
     let r = read_record(line);
     if !is_line_record(r) {
-        return false;
-    }
-    if !is_roundless(r) {
         return false;
     }
     if r.w1 != d {
@@ -70,7 +68,22 @@ fn all_lines(d: u32, lines: &[u8], n: u32) -> bool
     true
 }
 
-// The first number refused before the figures, of 8, 3, 6 for a key, and 4; 0 where none is.
+// Whether each member's record is of that round. Internal: callers ensure that the bytes are n records.
+fn all_of_round(round: u32, lines: &[u8], n: u32) -> bool
+    requires { ⌜ length (now lines) ≡ 32 * n ⌝ }
+    ensures { λ r. ⌜ r ≡ all (isLineOfRound round (now (lines .entry))) (members n) ⌝ }
+{
+    let mut i = 0;
+    while i < n {
+        if !is_of_round(round, record_at(lines, i as usize)) {
+            return false;
+        }
+        i += 1;
+    }
+    true
+}
+
+// The first number refused before the figures, of 8, 3, 6 for a key, 4 and 17; 0 where none is.
 fn form_refusal(s: Setting, d: u32, ys: &[u32], lines: &[u8]) -> u32
     ensures { λ r. ⌜ r ≡ refusal (dealingFormChecks s d (now (ys .entry)) (now (lines .entry))) ⌝ }
 {
@@ -90,6 +103,9 @@ fn form_refusal(s: Setting, d: u32, ys: &[u32], lines: &[u8]) -> u32
     }
     if !all_lines(d, lines, s.n) {
         return 4;
+    }
+    if !all_of_round(s.round, lines, s.n) {
+        return 17;
     }
     0
 }
@@ -228,7 +244,7 @@ pub fn judge_lines(s: Setting, d: u32, ys: &[u32], lines: &[u8]) -> LinesAnswer
     LinesAnswer { answer, figures }
 }
 
-// Judges a dealing in a setting: 8, 3, 6, 4, 6, 7, 9 and 10. Internal: callers ensure that the setting is proper.
+// Judges a dealing in a setting: 8, 3, 6, 4, 17, 6, 7, 9 and 10. Internal: callers ensure that the setting is proper.
 pub fn judge_dealing_in(s: Setting, d: u32, ys: &[u32], lines: &[u8]) -> CheckAnswer
     requires { ⌜ ProperSetting s ⌝ }
     ensures { λ r. ⌜ checkOutcomeOf r ≡ judgeDealingIn s d (now (ys .entry)) (now (lines .entry)) ⌝ }
@@ -241,8 +257,9 @@ pub fn judge_dealing_in(s: Setting, d: u32, ys: &[u32], lines: &[u8]) -> CheckAn
 }
 
 // Judges the lines of the dealer d, with the keys ys. Refused: 1 and 2 as setting_of; 8 d is no member; 3 not n keys or not 32n
-// bytes; 6 a key that is no element or is 1; 4 a record that is no line of d for the member of its place; 6 a v or Y that is no
-// element; 7 an r or c not below q; 9 the judge's own check polynomial does not pass; 10 a challenge is not the recomputed one.
+// bytes; 6 a key that is no element or is 1; 4 a record that is no line of d for the member of its place; 17 a line of another
+// round; 6 a v or Y that is no element; 7 an r or c not below q; 9 the judge's own check polynomial does not pass; 10 a challenge is
+// not the recomputed one.
 pub fn judge_dealing(rd: Round, d: u32, ys: &[u32], lines: &[u8]) -> CheckAnswer
     ensures { λ r. ⌜ checkOutcomeOf r ≡ judgeDealingOutcome rd d (now (ys .entry)) (now (lines .entry)) ⌝ }
 {

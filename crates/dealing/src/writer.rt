@@ -62,7 +62,7 @@ fn raised(gr: Group, bases: &[u32], xs: &[u32], n: usize) -> [u32; 31]
 // Writes the line of each member under the challenge c, from v, Y, the polynomial's value x and the nonce w of each.
 // Internal: callers ensure nonces below q, at most 31, and just the room for the lines.
 fn put_lines(
-    gr: Group,
+    s: Setting,
     d: u32,
     vs: &[u32; 31],
     encrypted: &[u32; 31],
@@ -71,15 +71,23 @@ fn put_lines(
     c: Exponent,
     out: &mut [u8],
 )
-    requires { ⌜ (length (now ws) ≤ 31) × (Below (gr .q) (now ws)) × (length (now out) ≡ 32 * length (now ws)) ⌝ }
+    requires { ⌜ (length (now ws) ≤ 31) × (Below (s .group .q) (now ws)) × (length (now out) ≡ 32 * length (now ws)) ⌝ }
     ensures { λ _. ⌜ now (out .exit) ≡ recordsBytes
-        (λ i. lineLayout d i (entry (now (vs .entry)) i) (entry (now (encrypted .entry)) i) (response gr (entry (now (ws .entry)) i) (c .0) (entry (now (xs .entry)) i)) (c .0))
+        (λ i. lineLayout d i (entry (now (vs .entry)) i) (entry (now (encrypted .entry)) i) (response (s .group) (entry (now (ws .entry)) i) (c .0) (entry (now (xs .entry)) i)) (c .0) (s .round))
         (members (length (now (ws .entry)))) ⌝ }
 {
     let mut i = 0;
     while i < ws.len() {
-        let r = response(gr, Exponent(ws[i]), c, Exponent(xs[i]));
-        let line = line_record(d, i as u32 + 1, Element(vs[i]), Element(encrypted[i]), r, c);
+        let r = response(s.group, Exponent(ws[i]), c, Exponent(xs[i]));
+        let line = line_record(
+            d,
+            i as u32 + 1,
+            Element(vs[i]),
+            Element(encrypted[i]),
+            r,
+            c,
+            s.round,
+        );
         let from = 32 * i;
         let to = from + 32;
         write_record(&mut out[from..to], line);
@@ -102,7 +110,7 @@ fn put_dealing(s: Setting, d: u32, ys: &[u32], f: &[u32], ws: &[u32], out: &mut 
     let a1s = raised(s.group, &gs, ws, n);
     let a2s = raised(s.group, ys, ws, n);
     let c = dealing_challenge(s, d, &vs, &encrypted, &a1s, &a2s);
-    put_lines(s.group, d, &vs, &encrypted, &xs, ws, c, out);
+    put_lines(s, d, &vs, &encrypted, &xs, ws, c, out);
 }
 
 // Whether there are n keys, t coefficients, n nonces and room for n lines.

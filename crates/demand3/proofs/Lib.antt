@@ -1,7 +1,8 @@
--- Proofs of what specs/Claims.antt, specs/Honest.antt and specs/Demand3.antt state.
+-- Proofs of what specs/Claims.antt, specs/Honest.antt, specs/Filed.antt and specs/Demand3.antt state.
 pub mod Sources
 pub mod VerdictCases
 pub mod Endings
 pub mod TwoBoards
 pub mod Honest
+pub mod Filed
 pub mod Demand3

@@ -35,14 +35,14 @@ shares-ascend J {S} {b} F d =
     (λ i j l u e f.
     let s = share-address J S b d i e in
     let t = share-address J S b d j f in
-    members-rise (sorted (S .n) b (F .form)) i j l (omega arith) (s .0 ∙ sym (t .0)) (s .1 ∙ sym (t .1)))
+    members-rise (sorted S b (F .form)) i j l (omega arith) (s .0 ∙ sym (t .0)) (s .1 ∙ sym (t .1)))
 
 -- ---- the opening
 module _ {S : Setting} {b : List ℕ} (F : Reached S b) (d : ℕ) where
   only-opening : (o : RightlyOpened S b d) → o .at ≡ openingPlace b d
   only-opening o =
-      only-record (sorted (S .n) b (F .form)) openingKind d 0 (o .at) (o .inside)
-      (true-at (recordAt b (o .at)) openingKind d 0 (o .kind) (o .dealer) (shapes (S .n) b (F .form) (o .at) (o .inside) .opening (o .kind)))
+      only-record (sorted S b (F .form)) openingKind d 0 (o .at) (o .inside)
+      (true-at (recordAt b (o .at)) openingKind d 0 (o .kind) (o .dealer) (shapes S b (F .form) (o .at) (o .inside) .opening (o .kind)))
 
   opened-right : isOpened S b d ≡ true → RightlyOpened S b d
   unfolding isOpened

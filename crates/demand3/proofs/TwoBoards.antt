@@ -14,11 +14,11 @@ use Rattle.words.proofs.Lists.{All-to, All-take, Pairwise-to, Pairwise-take, ma
 use Rattle.words.proofs.Stages.{front-outcome}
 use Rattle.field.specs.Polynomial.{valueAt}
 use Rattle.group.specs.declared.Group.{Group}
-use Rattle.sharing.specs.Setting.{ProperSetting, settingIn, roundChecks, judged, members}
+use Rattle.sharing.specs.Setting.{ProperSetting, settingIn, inRound, roundChecks, judged, members}
 use Rattle.sharing.specs.Answer.{recovered}
 use Rattle.sharing.specs.Carried.{Carries, Quorum, secretOf, powersAt}
 use Rattle.sharing.specs.declared.Setting.{Setting}
-use Rattle.sharing.proofs.Rounds.{round-proper, judged-in}
+use Rattle.sharing.proofs.Rounds.{round-proper, proper-in-round, carries-in-round, judged-in}
 use Rattle.sharing.proofs.Secret.{recovered-secret}
 use Rattle.sharing.proofs.Theorems.{opening-exactly, secret-of-commitments}
 use Rattle.records.specs.Layout.{memberOf, uOf, ZOf, recordAt}
@@ -30,7 +30,7 @@ use Rattle.verdicts.specs.Verdict.{Judges, isAccepted, commitmentsOf, isShareBy
 use Rattle.verdicts.specs.Draw.{secretValue, boardDrawChecks, boardProduct, drawIn, drawOn}
 use Rattle.verdicts.specs.declared.Secret.the-variants.{Stuck}
 use Rattle.verdicts.proofs.ShareAnswers.{share-address}
-use Rattle.demand3.specs.Claims.{powerOfH, recoveredFrom, acceptedDealers, productOf, SomeStuck, Recoverable, AllRecoverable, secretsOf, SameDraw, DrawByRound}
+use Rattle.demand3.specs.Claims.{powerOfH, recoveredFrom, acceptedDealers, productOf, SomeStuck, Recoverable, AllRecoverable, secretsOf, SameDraw, SameDrawAcross, DrawByRound}
 use Rattle.demand3.proofs.Sources.{Source, opened, recovers, stuck, source-of, stuck-exactly, shares-ascend}
 use Rattle.demand3.proofs.VerdictCases.{verdict-rules}
 use Rattle.demand3.proofs.Endings.{end-rules}
@@ -56,7 +56,7 @@ module _ {J : Judges} {S : Setting} (P : ProperSetting S) {b : List ℕ} (F : Re
         within =
             map-all memberIn (λ i. (1 ≤ i) × (i ≤ S .n)) serving
             (All-to serving
-            (λ i s. let z = shapes (S .n) b (F .form) i (s .0) in (z .share (share-address J S b d i (s .1) .0) .2, z .member))
+            (λ i s. let z = shapes S b (F .form) i (s .0) in (z .share (share-address J S b d i (s .1) .0) .2, z .member))
             serving-shares);
         distinct =
             Pairwise-to (map memberIn serving) (λ x y l e. omega arith)
@@ -112,28 +112,37 @@ module _ (J : Judges) (S : Setting) (P : ProperSetting S) (b : List ℕ) (f : �
   ends-in : S .t ≤ length (acceptedDealers J S b) → drawIn J S b ≡ value (record { 0 = secretsOf J S b f })
   ends-in l = end-rules J S P b (A .reached) .drawn (record { 0 = secretsOf J S b f }) .1 (l, none-stuck, ap (productOf (S .group .p)) (sym secrets))
 
--- ---- both boards
-pub same-draw : (J : Judges) → SameDraw J
-same-draw J S P b c f₁ f₂ A C M l = (
+-- ---- both boards, in the setting S and in T, which is S in the round of another number
+pub same-draw-across : (J : Judges) → SameDrawAcross J
+same-draw-across J S P round b c f₁ f₂ A C M l = (
   ends-in J S P b f₁ A l,
-  ends-in J S P c f₂ C (subst (λ (ds : List ℕ). S .t ≤ length ds) same l) ∙ (λ j. value (record { 0 = sym other j })),
+  ends-in J T P' c f₂ C (subst (λ (ds : List ℕ). S .t ≤ length ds) same l) ∙ (λ j. value (record { 0 = sym other j })),
 )
   where
-    same : acceptedDealers J S b ≡ acceptedDealers J S c
+    T : Setting
+    T = inRound round S
+
+    P' : ProperSetting T
+    P' = proper-in-round round P
+
+    same : acceptedDealers J S b ≡ acceptedDealers J T c
     same =
-        filter-same (isAccepted J S b) (isAccepted J S c) (members (S .n))
-        (each-members (λ d. isAccepted J S b d ≡ isAccepted J S c d) (S .n) (M .dealers))
+        filter-same (isAccepted J S b) (isAccepted J T c) (members (S .n))
+        (each-members (λ d. isAccepted J S b d ≡ isAccepted J T c d) (S .n) (M .dealers))
 
     secret : (d : ℕ) → 1 ≤ d → d ≤ S .n → isAccepted J S b d ≡ true → secretOf S (f₁ d) ≡ secretOf S (f₂ d)
     secret d h u a =
         secret-of-commitments S P (f₁ d) (f₂ d) (commitmentsOf S b d) (A .recoverable d h u a .carries)
-        (subst (Carries S (f₂ d)) (sym (M .commitments d h u a)) (C .recoverable d h u (sym (M .dealers d h u) ∙ a) .carries))
+        (subst (Carries S (f₂ d)) (sym (M .commitments d h u a)) (carries-in-round round (C .recoverable d h u (sym (M .dealers d h u) ∙ a) .carries)))
 
-    other : secretsOf J S b f₁ ≡ secretsOf J S c f₂
+    other : secretsOf J S b f₁ ≡ secretsOf J T c f₂
     other =
         let maps = map-same (λ d. powerOfH (S .group) (secretOf S (f₁ d))) (λ d. powerOfH (S .group) (secretOf S (f₂ d))) (acceptedDealers J S b)
         (All-to (acceptedDealers J S b) (λ d s. ap (powerOfH (S .group)) (secret d (s .0 .0) (s .0 .1) (s .1))) (accepted-within J S P b f₁ A)) in
         ap (productOf (S .group .p)) (maps ∙ ap (map (λ d. powerOfH (S .group) (secretOf S (f₂ d)))) same)
+
+pub same-draw : (J : Judges) → SameDraw J
+same-draw J S P = same-draw-across J S P (S .round)
 
 -- ---- over a round
 pub draw-by-round : (J : Judges) → DrawByRound J

@@ -13,7 +13,7 @@ use Rattle.field.specs.Polynomial.{valueAt}
 use Rattle.group.specs.Power.{pow}
 use Rattle.group.specs.declared.Element.{Element}
 use Rattle.group.specs.declared.Group.{Group}
-use Rattle.sharing.specs.Setting.{ProperSetting, settingIn, roundChecks, members}
+use Rattle.sharing.specs.Setting.{ProperSetting, settingIn, inRound, roundChecks, members}
 use Rattle.sharing.specs.Answer.{openingIn, recovered}
 use Rattle.sharing.specs.Carried.{Carries, secretOf}
 use Rattle.sharing.specs.declared.Round.{Round}
@@ -116,10 +116,11 @@ pub record AllRecoverable (J : Judges) (S : Setting) (b : List ℕ) (f : ℕ →
   pub reached : Met (boardChecks S b)
   pub recoverable : (d : ℕ) → 1 ≤ d → d ≤ S .n → isAccepted J S b d ≡ true → Recoverable J S b d (f d)
 
--- the same dealers' dealings are accepted, and each has the same commitments; keys, Y and all else may differ
-pub record SameDealings (J : Judges) (S : Setting) (b c : List ℕ) : Type 0 where
-  pub dealers : (d : ℕ) → 1 ≤ d → d ≤ S .n → isAccepted J S b d ≡ isAccepted J S c d
-  pub commitments : (d : ℕ) → 1 ≤ d → d ≤ S .n → isAccepted J S b d ≡ true → commitmentsOf S b d ≡ commitmentsOf S c d
+-- on the board b in the setting S and the board c in T the same dealers' dealings are accepted, and each has the same commitments; keys, Y
+-- and all else may differ
+pub record SameDealings (J : Judges) (S T : Setting) (b c : List ℕ) : Type 0 where
+  pub dealers : (d : ℕ) → 1 ≤ d → d ≤ S .n → isAccepted J S b d ≡ isAccepted J T c d
+  pub commitments : (d : ℕ) → 1 ≤ d → d ≤ S .n → isAccepted J S b d ≡ true → commitmentsOf S b d ≡ commitmentsOf T c d
 
 -- the product modulo p of the h^s of the accepted dealings, that of d with the polynomial f d
 abbrev pub secretsOf : Judges → Setting → List ℕ → (ℕ → List ℕ) → ℕ
@@ -128,16 +129,21 @@ secretsOf J S b f = productOf (S .group .p) (map (λ d. powerOfH (S .group) (sec
 -- F. Any two boards of one group, n and t with the same accepted dealings, at least t of them, each carried by a polynomial of degree
 -- below t, end in the same draw value, the product of the h^s modulo p, if on each board every one of these dealings is rightly opened
 -- or has t or more accepted shares and all accepted shares are true. The polynomials may be named differently for the two boards;
--- draw b is what is answered for the board b.
-abbrev pub TwoBoards : Judges → Setting → (List ℕ → Outcome Element) → Type 0
-TwoBoards J S draw =
-    (b c : List ℕ) (f₁ f₂ : ℕ → List ℕ) → AllRecoverable J S b f₁ → AllRecoverable J S c f₂ → SameDealings J S b c
+-- draw₁ b and draw₂ c are what is answered for the board b in the setting S and for the board c in T.
+abbrev pub TwoBoards : Judges → Setting → Setting → (List ℕ → Outcome Element) → (List ℕ → Outcome Element) → Type 0
+TwoBoards J S T draw₁ draw₂ =
+    (b c : List ℕ) (f₁ f₂ : ℕ → List ℕ) → AllRecoverable J S b f₁ → AllRecoverable J T c f₂ → SameDealings J S T b c
     → S .t ≤ length (acceptedDealers J S b)
-    → (draw b ≡ value (record { 0 = secretsOf J S b f₁ })) × (draw c ≡ value (record { 0 = secretsOf J S b f₁ }))
+    → (draw₁ b ≡ value (record { 0 = secretsOf J S b f₁ })) × (draw₂ c ≡ value (record { 0 = secretsOf J S b f₁ }))
 
--- in every proper setting; nothing is asked of the judges
+-- two boards of one round, in every proper setting; nothing is asked of the judges
 abbrev pub SameDraw : Judges → Type 0
-SameDraw J = (S : Setting) → ProperSetting S → TwoBoards J S (drawIn J S)
+SameDraw J = (S : Setting) → ProperSetting S → TwoBoards J S S (drawIn J S) (drawIn J S)
+
+-- two boards of two rounds: what is accepted decides the draw value, and not the round that it is accepted in
+abbrev pub SameDrawAcross : Judges → Type 0
+SameDrawAcross J =
+    (S : Setting) → ProperSetting S → (round : ℕ) → TwoBoards J S (inRound round S) (drawIn J S) (drawIn J (inRound round S))
 
 -- ---- over a round
 -- what the board judge answers: it refuses a round that 1 or 2 refuses by that number. The setting of any other is proper, and the
@@ -146,7 +152,7 @@ pub record DrawOverRound (J : Judges) (R : Round) : Type 0 where
   pub refuses : (b : List ℕ) (k : ℕ) → FirstUnmet k (roundChecks R) → drawOn J R b ≡ refused k
   pub proper : Met (roundChecks R) → ProperSetting (settingIn R)
   pub draw-in : Met (roundChecks R) → (b : List ℕ) → drawOn J R b ≡ drawIn J (settingIn R) b
-  pub same-draw : Met (roundChecks R) → TwoBoards J (settingIn R) (drawOn J R)
+  pub same-draw : Met (roundChecks R) → TwoBoards J (settingIn R) (settingIn R) (drawOn J R) (drawOn J R)
 
 abbrev pub DrawByRound : Judges → Type 0
 DrawByRound J = (R : Round) → DrawOverRound J R

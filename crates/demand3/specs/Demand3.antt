@@ -3,7 +3,7 @@
 -- read it off for every round that 1 and 2 do not refuse.
 use Rattle.sharing.specs.Claims.{AlwaysCarried, UncarriedOneValue, CarriedPasses, CarriedExactly, OpeningExactly, QuorumRecovers, RoundBySetting}
 use Rattle.verdicts.specs.Verdict.{judges}
-use Rattle.demand3.specs.Claims.{SameDraw, DrawByRound}
+use Rattle.demand3.specs.Claims.{SameDraw, SameDrawAcross, DrawByRound}
 
 pub record Demand3 : Type 0 where
   -- A. With n = t there is no place of a check polynomial, and some polynomial of degree below t carries any n elements.
@@ -19,9 +19,11 @@ pub record Demand3 : Type 0 where
   pub opening-exactly : OpeningExactly
   -- E. True shares of t or more different members, in whatever order, recover h^s, the secret that the accepted opening gives.
   pub quorum-recovers : QuorumRecovers
-  -- F. Two boards with the same accepted dealings, t or more, each carried, opened or with t or more accepted shares, all of them true,
+  -- F. Two boards of one round with the same accepted dealings, t or more, each carried, opened or with t or more accepted shares, all of them true,
   -- end in the same draw value, the product of the h^s modulo p. The judges are those of the crates dealing and share.
   pub same-draw : SameDraw judges
+  -- F for two boards of two rounds.
+  pub same-draw-across : SameDrawAcross judges
   -- A to E over a round: each operation answers what it answers in the round's setting, which is proper.
   pub round-by-setting : RoundBySetting
   -- F over a round: what the board judge answers.

@@ -1,8 +1,8 @@
--- Honest delegates meet the hypotheses, in every proper setting: what is written from proper figures is accepted, true, and recovers
+-- Honest delegates meet the hypotheses, in every proper setting of a round whose number is a word: what is written from proper figures is accepted, true, and recovers
 -- the secret.
 use mathlib.Core.Path.{_≡_}
 use mathlib.Core.List.{List}
-use Prim.Native.Nat.{ℕ, _*_, _<_, _≤_}
+use Prim.Native.Nat.{ℕ, _*_, _^_, _<_, _≤_}
 use Rattle.words.specs.Lists.{All, map}
 use Rattle.words.specs.Checks.{value}
 use Rattle.field.specs.Polynomial.{valueAt}
@@ -30,7 +30,7 @@ lineY S d ys f ws i = YIn (writtenDealing S d ys f ws) i
 -- secret key: it is accepted with his key and the line's Y, and answers h to the polynomial's value at him
 abbrev pub LineShareAccepted : Type 0
 LineShareAccepted =
-    (S : Setting) → ProperSetting S → (d : ℕ) (ys f ws : List ℕ) → writeDealingIn S d ys f ws (32 * S .n) ≡ value tt
+    (S : Setting) → ProperSetting S → S .round < 2 ^ 32 → (d : ℕ) (ys f ws : List ℕ) → writeDealingIn S d ys f ws (32 * S .n) ≡ value tt
     → (i x w : ℕ) → 1 ≤ i → i ≤ S .n → HoldsKey (S .group) ys i x → w < S .group .q
     → (writeShareIn S d i (lineY S d ys f ws i) x w 32 ≡ value tt)
     × (judgeShareIn S d i (entry ys i) (lineY S d ys f ws i) (writtenShare S d i (lineY S d ys f ws i) x w)
@@ -39,6 +39,6 @@ LineShareAccepted =
 -- and such shares of t or more members recover the dealing's secret
 abbrev pub WrittenRecovered : Type 0
 WrittenRecovered =
-    (S : Setting) → ProperSetting S → (d : ℕ) (ys f ws : List ℕ) → writeDealingIn S d ys f ws (32 * S .n) ≡ value tt
+    (S : Setting) → ProperSetting S → S .round < 2 ^ 32 → (d : ℕ) (ys f ws : List ℕ) → writeDealingIn S d ys f ws (32 * S .n) ≡ value tt
     → (x : ℕ → ℕ) (ms : List ℕ) → Quorum S ms → All (λ i. HoldsKey (S .group) ys i (x i)) ms
     → recoveryIn S ms (map (λ i. shareOf (S .group) (lineY S d ys f ws i) (x i)) ms) ≡ value (record { 0 = powerOfH (S .group) (secretOf S f) })

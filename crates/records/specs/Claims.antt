@@ -2,10 +2,9 @@
 use mathlib.Core.Path.{_≡_}
 use mathlib.Core.Bool.{true}
 use mathlib.Core.Logic.{_↔_}
-use lib.Dec.{eqb}
 use Rattle.words.specs.declared.Record.{Record}
 use Rattle.records.specs.Layout.{agrees}
 
--- a record agrees with a layout, and in word 7 too, exactly if it is what the layout lays out
+-- a record agrees with a layout exactly if it is what the layout lays out
 abbrev pub AgreesExactly : Type 0
-AgreesExactly = (r s : Record) → ((agrees r s ≡ true) × (eqb (r .w7) (s .w7) ≡ true)) ↔ (r ≡ s)
+AgreesExactly = (r s : Record) → (agrees r s ≡ true) ↔ (r ≡ s)

@@ -23,26 +23,26 @@ shareKind = 4
 abbrev pub setKind : ℕ
 setKind = 9
 
--- ---- layouts: the kind, the dealer, the member, then figures; words that nothing names are 0
+-- ---- layouts: the kind, the dealer, the member, then figures, and the round's number last; words that nothing names are 0
 -- the key y of member i
-abbrev pub keyLayout : ℕ → ℕ → Record
-keyLayout i y = record { w0 = keyKind; w1 = 0; w2 = i; w3 = y; w4 = 0; w5 = 0; w6 = 0; w7 = 0 }
+abbrev pub keyLayout : ℕ → ℕ → ℕ → Record
+keyLayout i y round = record { w0 = keyKind; w1 = 0; w2 = i; w3 = y; w4 = 0; w5 = 0; w6 = 0; w7 = round }
 
 -- the line of dealer d for member i: a commitment v and an encrypted share Y with its proof, response r and challenge c
-abbrev pub lineLayout : ℕ → ℕ → ℕ → ℕ → ℕ → ℕ → Record
-lineLayout d i v Y r c = record { w0 = lineKind; w1 = d; w2 = i; w3 = v; w4 = Y; w5 = r; w6 = c; w7 = 0 }
+abbrev pub lineLayout : ℕ → ℕ → ℕ → ℕ → ℕ → ℕ → ℕ → Record
+lineLayout d i v Y r c round = record { w0 = lineKind; w1 = d; w2 = i; w3 = v; w4 = Y; w5 = r; w6 = c; w7 = round }
 
 -- the opening u of dealer d
-abbrev pub openingLayout : ℕ → ℕ → Record
-openingLayout d u = record { w0 = openingKind; w1 = d; w2 = 0; w3 = u; w4 = 0; w5 = 0; w6 = 0; w7 = 0 }
+abbrev pub openingLayout : ℕ → ℕ → ℕ → Record
+openingLayout d u round = record { w0 = openingKind; w1 = d; w2 = 0; w3 = u; w4 = 0; w5 = 0; w6 = 0; w7 = round }
 
 -- an opened share (a decrypted share) Z, the paper's S, of dealer d and member i with its proof, challenge c and response r
-abbrev pub shareLayout : ℕ → ℕ → ℕ → ℕ → ℕ → Record
-shareLayout d i Z c r = record { w0 = shareKind; w1 = d; w2 = i; w3 = Z; w4 = c; w5 = r; w6 = 0; w7 = 0 }
+abbrev pub shareLayout : ℕ → ℕ → ℕ → ℕ → ℕ → ℕ → Record
+shareLayout d i Z c r round = record { w0 = shareKind; w1 = d; w2 = i; w3 = Z; w4 = c; w5 = r; w6 = 0; w7 = round }
 
--- the round: the group's number g, n and t
-abbrev pub setLayout : ℕ → ℕ → ℕ → Record
-setLayout g n t = record { w0 = setKind; w1 = g; w2 = n; w3 = t; w4 = 0; w5 = 0; w6 = 0; w7 = 0 }
+-- the round: the group's number g, n and t, and the round's own number in word 4
+abbrev pub setLayout : ℕ → ℕ → ℕ → ℕ → Record
+setLayout g n t round = record { w0 = setKind; w1 = g; w2 = n; w3 = t; w4 = round; w5 = 0; w6 = 0; w7 = 0 }
 
 -- ---- the figures of a record
 abbrev pub dealerOf : Record → ℕ
@@ -50,6 +50,9 @@ dealerOf r = r .w1
 
 abbrev pub memberOf : Record → ℕ
 memberOf r = r .w2
+
+abbrev pub roundOf : Record → ℕ
+roundOf r = r .w7
 
 -- of a key
 abbrev pub yOf : Record → ℕ
@@ -92,30 +95,34 @@ setN r = r .w2
 abbrev pub setT : Record → ℕ
 setT r = r .w3
 
--- ---- form: a record agrees with its kind's layout of its own figures
--- words 0 to 6 are the same; word 7 is tested apart
+abbrev pub setRound : Record → ℕ
+setRound r = r .w4
+
+-- ---- form: a record agrees with its kind's layout of its own figures, its own round among them
 unfoldable pub agrees : Record → Record → Bool
 agrees r s =
     eqb (r .w0) (s .w0)
-    && (eqb (r .w1) (s .w1) && (eqb (r .w2) (s .w2) && (eqb (r .w3) (s .w3) && (eqb (r .w4) (s .w4) && (eqb (r .w5) (s .w5) && eqb (r .w6) (s .w6))))))
-
-abbrev pub isRoundless : Record → Bool
-isRoundless r = eqb (r .w7) 0
+    && (eqb (r .w1) (s .w1) && (eqb (r .w2) (s .w2) && (eqb (r .w3) (s .w3)
+    && (eqb (r .w4) (s .w4) && (eqb (r .w5) (s .w5) && (eqb (r .w6) (s .w6) && eqb (r .w7) (s .w7)))))))
 
 abbrev pub isKeyRecord : Record → Bool
-isKeyRecord r = agrees r (keyLayout (memberOf r) (yOf r))
+isKeyRecord r = agrees r (keyLayout (memberOf r) (yOf r) (roundOf r))
 
 abbrev pub isLineRecord : Record → Bool
-isLineRecord r = agrees r (lineLayout (dealerOf r) (memberOf r) (vOf r) (YOf r) (rOf r) (cOf r))
+isLineRecord r = agrees r (lineLayout (dealerOf r) (memberOf r) (vOf r) (YOf r) (rOf r) (cOf r) (roundOf r))
 
 abbrev pub isOpeningRecord : Record → Bool
-isOpeningRecord r = agrees r (openingLayout (dealerOf r) (uOf r))
+isOpeningRecord r = agrees r (openingLayout (dealerOf r) (uOf r) (roundOf r))
 
 abbrev pub isShareRecord : Record → Bool
-isShareRecord r = agrees r (shareLayout (dealerOf r) (memberOf r) (ZOf r) (shareC r) (shareR r))
+isShareRecord r = agrees r (shareLayout (dealerOf r) (memberOf r) (ZOf r) (shareC r) (shareR r) (roundOf r))
 
 abbrev pub isSetRecord : Record → Bool
-isSetRecord r = agrees r (setLayout (setGroup r) (setN r) (setT r))
+isSetRecord r = agrees r (setLayout (setGroup r) (setN r) (setT r) (setRound r))
+
+-- ---- round: it is tested behind the form, by 17
+abbrev pub isOfRound : ℕ → Record → Bool
+isOfRound round r = eqb (roundOf r) round
 
 -- ---- many
 -- the figure of member i in a list of the members' figures

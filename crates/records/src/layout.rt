@@ -3,7 +3,7 @@ ghost use mathlib.Core.Path.{_≡_};
 ghost use Prim.Native.Nat.{_+_, _*_, _≤_};
 ghost use lib.ListN.{length};
 ghost use Rattle.records.specs.Layout.{keyLayout, lineLayout, openingLayout, shareLayout, setLayout, recordAt};
-ghost use Rattle.records.specs.Layout.{agrees, isRoundless, isKeyRecord, isLineRecord, isOpeningRecord, isShareRecord, isSetRecord};
+ghost use Rattle.records.specs.Layout.{agrees, isKeyRecord, isLineRecord, isOpeningRecord, isShareRecord, isSetRecord, isOfRound};
 use group::Element;
 use group::Exponent;
 use words::Record;
@@ -19,8 +19,8 @@ pub const SHARE: u32 = 4;
 pub const SET: u32 = 9;
 
 // The key y of member i.
-pub fn key_record(i: u32, y: Element) -> Record
-    ensures { λ a. ⌜ a ≡ keyLayout i (y .0) ⌝ }
+pub fn key_record(i: u32, y: Element, round: u32) -> Record
+    ensures { λ a. ⌜ a ≡ keyLayout i (y .0) round ⌝ }
 {
     Record {
         w0: KEY,
@@ -30,7 +30,7 @@ pub fn key_record(i: u32, y: Element) -> Record
         w4: 0,
         w5: 0,
         w6: 0,
-        w7: 0,
+        w7: round,
     }
 }
 
@@ -42,8 +42,9 @@ pub fn line_record(
     encrypted: Element,
     r: Exponent,
     c: Exponent,
+    round: u32,
 ) -> Record
-    ensures { λ a. ⌜ a ≡ lineLayout d i (v .0) (encrypted .0) (r .0) (c .0) ⌝ }
+    ensures { λ a. ⌜ a ≡ lineLayout d i (v .0) (encrypted .0) (r .0) (c .0) round ⌝ }
 {
     Record {
         w0: LINE,
@@ -53,13 +54,13 @@ pub fn line_record(
         w4: encrypted.0,
         w5: r.0,
         w6: c.0,
-        w7: 0,
+        w7: round,
     }
 }
 
 // The opening of dealer d.
-pub fn opening_record(d: u32, u: Exponent) -> Record
-    ensures { λ a. ⌜ a ≡ openingLayout d (u .0) ⌝ }
+pub fn opening_record(d: u32, u: Exponent, round: u32) -> Record
+    ensures { λ a. ⌜ a ≡ openingLayout d (u .0) round ⌝ }
 {
     Record {
         w0: OPENING,
@@ -69,13 +70,20 @@ pub fn opening_record(d: u32, u: Exponent) -> Record
         w4: 0,
         w5: 0,
         w6: 0,
-        w7: 0,
+        w7: round,
     }
 }
 
 // An opened share (a decrypted share) of dealer d and member i, and its proof's challenge and response.
-pub fn share_record(d: u32, i: u32, decrypted: Element, c: Exponent, r: Exponent) -> Record
-    ensures { λ a. ⌜ a ≡ shareLayout d i (decrypted .0) (c .0) (r .0) ⌝ }
+pub fn share_record(
+    d: u32,
+    i: u32,
+    decrypted: Element,
+    c: Exponent,
+    r: Exponent,
+    round: u32,
+) -> Record
+    ensures { λ a. ⌜ a ≡ shareLayout d i (decrypted .0) (c .0) (r .0) round ⌝ }
 {
     Record {
         w0: SHARE,
@@ -85,27 +93,27 @@ pub fn share_record(d: u32, i: u32, decrypted: Element, c: Exponent, r: Exponent
         w4: c.0,
         w5: r.0,
         w6: 0,
-        w7: 0,
+        w7: round,
     }
 }
 
-// The round: the group's number, n and t.
-pub fn set_record(number: u32, n: u32, t: u32) -> Record
-    ensures { λ a. ⌜ a ≡ setLayout number n t ⌝ }
+// The round: the group's number, n and t, and the round's own number.
+pub fn set_record(number: u32, n: u32, t: u32, round: u32) -> Record
+    ensures { λ a. ⌜ a ≡ setLayout number n t round ⌝ }
 {
     Record {
         w0: SET,
         w1: number,
         w2: n,
         w3: t,
-        w4: 0,
+        w4: round,
         w5: 0,
         w6: 0,
         w7: 0,
     }
 }
 
-// Whether words 0 to 6 are the same.
+// Whether all words are the same.
 fn agrees(r: Record, s: Record) -> bool
     ensures { λ a. ⌜ a ≡ agrees r s ⌝ }
 {
@@ -127,20 +135,16 @@ fn agrees(r: Record, s: Record) -> bool
     if r.w5 != s.w5 {
         return false;
     }
-    r.w6 == s.w6
-}
-
-// Word 7 is 0.
-pub fn is_roundless(r: Record) -> bool
-    ensures { λ a. ⌜ a ≡ isRoundless r ⌝ }
-{
-    r.w7 == 0
+    if r.w6 != s.w6 {
+        return false;
+    }
+    r.w7 == s.w7
 }
 
 pub fn is_key_record(r: Record) -> bool
     ensures { λ a. ⌜ a ≡ isKeyRecord r ⌝ }
 {
-    agrees(r, key_record(r.w2, Element(r.w3)))
+    agrees(r, key_record(r.w2, Element(r.w3), r.w7))
 }
 
 pub fn is_line_record(r: Record) -> bool
@@ -155,6 +159,7 @@ pub fn is_line_record(r: Record) -> bool
             Element(r.w4),
             Exponent(r.w5),
             Exponent(r.w6),
+            r.w7,
         ),
     )
 }
@@ -162,7 +167,7 @@ pub fn is_line_record(r: Record) -> bool
 pub fn is_opening_record(r: Record) -> bool
     ensures { λ a. ⌜ a ≡ isOpeningRecord r ⌝ }
 {
-    agrees(r, opening_record(r.w1, Exponent(r.w3)))
+    agrees(r, opening_record(r.w1, Exponent(r.w3), r.w7))
 }
 
 pub fn is_share_record(r: Record) -> bool
@@ -170,14 +175,28 @@ pub fn is_share_record(r: Record) -> bool
 {
     agrees(
         r,
-        share_record(r.w1, r.w2, Element(r.w3), Exponent(r.w4), Exponent(r.w5)),
+        share_record(
+            r.w1,
+            r.w2,
+            Element(r.w3),
+            Exponent(r.w4),
+            Exponent(r.w5),
+            r.w7,
+        ),
     )
 }
 
 pub fn is_set_record(r: Record) -> bool
     ensures { λ a. ⌜ a ≡ isSetRecord r ⌝ }
 {
-    agrees(r, set_record(r.w1, r.w2, r.w3))
+    agrees(r, set_record(r.w1, r.w2, r.w3, r.w4))
+}
+
+// Whether a record is of that round, which is tested behind its form.
+pub fn is_of_round(round: u32, r: Record) -> bool
+    ensures { λ a. ⌜ a ≡ isOfRound round r ⌝ }
+{
+    r.w7 == round
 }
 
 // The record number k, from 0, of bytes that hold records.

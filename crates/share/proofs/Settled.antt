@@ -18,12 +18,12 @@ use Rattle.group.specs.Element.{isElement, isExponent}
 use Rattle.group.proofs.Elements.{exponent-true, true-exponent}
 use Rattle.sharing.specs.Setting.{isMember}
 use Rattle.sharing.specs.declared.Setting.{Setting}
-use Rattle.records.specs.Layout.{shareLayout, isShareRecord, dealerOf, memberOf, shareC, shareR}
+use Rattle.records.specs.Layout.{shareLayout, isShareRecord, dealerOf, memberOf, roundOf, shareC, shareR}
 use Rattle.records.specs.Keys.{isKey, isSecretKey}
 use Rattle.challenge.specs.Message.{challengeOf, shareMessage, shareTag}
 use Rattle.equality.specs.Equality.{response}
 use Rattle.records.proofs.Members.{member-exactly}
-use Rattle.share.specs.Share.{keyOf, shareOf, writtenShareC, writtenShareRecord, writtenShare, membersChecks, writeShareChecks, shareInputChecks, shareFormChecks, shareAdmissionChecks, shareFigureChecks}
+use Rattle.share.specs.Share.{keyOf, shareOf, writtenShareC, writtenShareRecord, writtenShare, membersChecks, writeShareChecks, shareInputChecks, isShareFor, shareFormChecks, shareAdmissionChecks, shareFigureChecks}
 use Rattle.share.specs.Claims.{AdmittedShare, ShareHolds}
 
 -- ---- dealer and member
@@ -36,13 +36,24 @@ members-exactly S d i = (
 
 -- ---- all before the figures
 module _ (S : Setting) (d i y Y : ℕ) (b : List ℕ) where
+  -- the stages of it, but for the round
+  pub admission-stages : AdmittedShare S d i y Y b (recordIn b)
+      → Met (membersChecks S d i) × Met (shareInputChecks (S .group) y Y b) × (isShareFor d i (recordIn b) ≡ true)
+  unfolding shareInputChecks
+  admission-stages A =
+      let r = recordIn b in (
+        members-exactly S d i .1 (A .dealer, A .member),
+        (eq-eqb (length b) 32 (A .size), (true-and (isKey (S .group) y) _ (A .key) (A .Y-element), tt)),
+        true-and (isShareRecord r) _ (A .kind) (true-equal (dealerOf r) d (memberOf r) i (A .dealer-word) (A .member-word)),
+      )
+
   pub admission-exactly : Met (shareAdmissionChecks S d i y Y b) ↔ AdmittedShare S d i y Y b (recordIn b)
   unfolding shareAdmissionChecks shareInputChecks shareFormChecks
   admission-exactly =
       let r = recordIn b in
       let numbers = membersChecks S d i in
       let inputs = shareInputChecks (S .group) y Y b in
-      let form = shareFormChecks d i r in (
+      let form = shareFormChecks (S .round) d i r in (
         λ m.
             let behind = met-both (numbers ++ inputs) form m in
             let front = met-both numbers inputs (behind .0) in
@@ -59,13 +70,11 @@ module _ (S : Setting) (d i y Y : ℕ) (b : List ℕ) where
               kind = laid .0;
               dealer-word = posted .0;
               member-word = posted .1;
-              roundless = behind .1 .1 .0;
+              round = eqb-true (roundOf r) (S .round) (behind .1 .1 .0);
             },
         λ A.
-            both-met (numbers ++ inputs) form
-            (both-met numbers inputs (members-exactly S d i .1 (A .dealer, A .member))
-            (eq-eqb (length b) 32 (A .size), (true-and (isKey (S .group) y) _ (A .key) (A .Y-element), tt)))
-            (true-and (isShareRecord r) _ (A .kind) (true-equal (dealerOf r) d (memberOf r) i (A .dealer-word) (A .member-word)), (A .roundless, tt)),
+            let s = admission-stages A in
+            both-met (numbers ++ inputs) form (both-met numbers inputs (s .0) (s .1)) (s .2, (eq-eqb (roundOf r) (S .round) (A .round), tt)),
       )
 
   pub admission-none : {k : ℕ} → k ≡ refusal (shareAdmissionChecks S d i y Y b) → k ≡ 0 → AdmittedShare S d i y Y b (recordIn b)
@@ -129,6 +138,6 @@ pub share-bytes : (S : Setting) (d i Y x w : ℕ) {k Z y a1 a2 c r : ℕ}
     → k ≡ inv (S .group .q) x → Z ≡ pow (S .group .p) Y k → y ≡ pow (S .group .p) (S .group .h .0) x
     → a1 ≡ pow (S .group .p) (S .group .h .0) w → a2 ≡ pow (S .group .p) Z w
     → c ≡ challengeOf S (shareMessage shareTag S d i y Y Z a1 a2) → r ≡ response (S .group) w c x
-    → recordBytes (shareLayout d i Z c r) ≡ writtenShare S d i Y x w
+    → recordBytes (shareLayout d i Z c r (S .round)) ≡ writtenShare S d i Y x w
 unfolding writtenShare writtenShareRecord writtenShareC shareOf keyOf
 share-bytes S d i Y x w k-is Z-is y-is a1-is a2-is c-is r-is = cc

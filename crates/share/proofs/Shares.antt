@@ -3,15 +3,17 @@
 use mathlib.Core.Path.{_≡_, refl, sym, ap, _∙_, subst}
 use mathlib.Core.Bool.{true}
 use mathlib.Core.List.{List, _++_}
+use mathlib.Core.Logic.{inl, inr}
 use Prim.Native.Nat.{ℕ, _^_, _<_}
 use native.Mathlib.Omega.{arith}
+use borrow.Author.Tests.{ne-eqb}
 use lib.ListN.{length}
 use Rattle.words.specs.Lists.{Below}
-use Rattle.words.specs.Checks.{value}
+use Rattle.words.specs.Checks.{value, refused, FirstUnmet}
 use Rattle.words.specs.Bytes.{recordWords, recordIn}
 use Rattle.words.specs.declared.Record.{Record}
 use Rattle.words.proofs.Checks.{value-exactly, refused-exactly, if-met, if-unmet}
-use Rattle.words.proofs.Stages.{both-met, met-both, rest-outcome}
+use Rattle.words.proofs.Stages.{both-met, met-both, rest-outcome, rest-first, front-outcome}
 use Rattle.words.proofs.Bytes.{record-length, read-back}
 use Rattle.field.specs.Residue.{inv}
 use Rattle.group.specs.Power.{pow}
@@ -19,20 +21,20 @@ use Rattle.group.specs.Element.{isElement}
 use Rattle.group.specs.declared.Element.{Element}
 use Rattle.group.specs.declared.Group.{Group}
 use Rattle.group.proofs.Elements.{power-element}
-use Rattle.sharing.specs.Setting.{ProperSetting, settingIn, roundChecks, judged, judgedElse}
+use Rattle.sharing.specs.Setting.{ProperSetting, settingIn, inRound, roundChecks, judged, judgedElse}
 use Rattle.sharing.specs.declared.Setting.{Setting}
 use Rattle.sharing.proofs.Rounds.{judged-exactly, judged-else-in}
-use Rattle.records.specs.Layout.{shareKind, ZOf}
+use Rattle.records.specs.Layout.{shareKind, roundOf, ZOf}
 use Rattle.challenge.specs.Message.{challengeOf, shareMessage, shareTag}
 use Rattle.equality.specs.Equality.{announced, response}
 use Rattle.share.specs.Share.{keyOf, shareOf, writtenShareC, writtenShareRecord, writtenShare, writeShareChecks, writeShareIn, writeShareOutcome, lentAfterShareIn, lentAfterShare}
-use Rattle.share.specs.Share.{shareRecomputed, shareAdmissionChecks, shareFigureChecks, judgeShareChecks, judgeShareFiguresIn, judgeShareIn, judgeShareOutcome}
-use Rattle.share.specs.Claims.{AcceptedShare, ShareExactly, FiguresDecide, ShareComplete, LentShare, LentShareKept, SharesByRound}
+use Rattle.share.specs.Share.{membersChecks, shareInputChecks, shareFormChecks, shareRecomputed, shareAdmissionChecks, shareFigureChecks, judgeShareChecks, judgeShareFiguresIn, judgeShareIn, judgeShareOutcome}
+use Rattle.share.specs.Claims.{AcceptedShare, ShareExactly, FiguresDecide, ShareOfOtherRound, ShareComplete, ShareForOtherRound, LentShare, LentShareKept, SharesByRound}
 use Rattle.records.proofs.Layouts.{laid-agrees}
 use Rattle.records.proofs.Posted.{member-word, element-word, exponent-word}
 use Rattle.challenge.proofs.Challenges.{challenge-low}
 use Rattle.equality.proofs.Equal.{response-low, announced-back}
-use Rattle.share.proofs.Settled.{WritableShare, admission-exactly, figures-exactly, write-settled}
+use Rattle.share.proofs.Settled.{WritableShare, admission-exactly, admission-stages, figures-exactly, write-settled}
 use Rattle.share.proofs.Keys.{h-element, key-proper, share-to-x}
 
 -- ---- judged
@@ -49,13 +51,22 @@ share-exactly S d i y Y b =
       λ A. all-met .1 (both-met front figures (admission-exactly S d i y Y b .1 (A .admitted)) (figures-exactly shareTag S d i y Y r .1 (A .holds))),
     )
 
+pub share-of-other-round : ShareOfOtherRound
+unfolding judgeShareIn shareAdmissionChecks shareFormChecks
+share-of-other-round S d i y Y b m k e n =
+    let r = recordIn b in
+    let inputs = shareInputChecks (S .group) y Y b in
+    let form : FirstUnmet 17 (shareFormChecks (S .round) d i r) = inr (e, inl (ne-eqb (roundOf r) (S .round) n, refl)) in
+    let front = rest-first (membersChecks S d i ++ inputs) (shareFormChecks (S .round) d i r) 17 (both-met (membersChecks S d i) inputs m k) form in
+    sym (front-outcome (shareAdmissionChecks S d i y Y b) (shareFigureChecks shareTag S d i y Y r) 17 front (record { 0 = ZOf r }))
+
 pub figures-decide : FiguresDecide
 unfolding judgeShareIn judgeShareFiguresIn
 figures-decide S d i y Y b A =
     rest-outcome (shareAdmissionChecks S d i y Y b) (shareFigureChecks shareTag S d i y Y (recordIn b)) (admission-exactly S d i y Y b .1 A) (record { 0 = ZOf (recordIn b) })
 
 -- ---- written
-module _ (S : Setting) (P : ProperSetting S) (d i Y x w room : ℕ) (W : WritableShare S d i Y x w room) where
+module _ (S : Setting) (P : ProperSetting S) (word : S .round < 2 ^ 32) (d i Y x w room : ℕ) (W : WritableShare S d i Y x w room) where
   abbrev G : Group
   G = S .group
 
@@ -107,7 +118,7 @@ module _ (S : Setting) (P : ProperSetting S) (d i Y x w room : ℕ) (W : Writabl
               kind = laid-agrees written;
               dealer-word = refl;
               member-word = refl;
-              roundless = refl;
+              round = refl;
             };
         holds = record { Z-element = Z-element; c-low = c-low; r-low = response-low G (P .proper) w c x; challenge = sym recomputed-same };
       }
@@ -125,7 +136,7 @@ module _ (S : Setting) (P : ProperSetting S) (d i Y x w room : ℕ) (W : Writabl
             member-word P i (W .member .1),
             (
               element-word P Z Z-element,
-              (exponent-word P c c-low, (exponent-word P (response G w c x) r-low, (spare, (spare, tt)))),
+              (exponent-word P c c-low, (exponent-word P (response G w c x) r-low, (spare, (word, tt)))),
             ),
           ),
         ),
@@ -142,19 +153,33 @@ module _ (S : Setting) (P : ProperSetting S) (d i Y x w room : ℕ) (W : Writabl
       share-exactly S d i y Y b .1 (subst (AcceptedShare S d i y Y b) (sym read-written) written-proper)
       ∙ ap (λ (r : Record). value (record { 0 = ZOf r })) read-written
 
+  -- in the round of another number
+  pub refused-elsewhere : (round : ℕ) → (round ≡ S .round → ⊥) → judgeShareIn (inRound round S) d i y Y (writtenShare S d i Y x w) ≡ refused 17
+  unfolding membersChecks writtenShareRecord
+  refused-elsewhere round n =
+      let b : List ℕ = writtenShare S d i Y x w in
+      let A = subst (AcceptedShare S d i y Y b) (sym read-written) written-proper .admitted in
+      let m = admission-stages S d i y Y b A in
+      share-of-other-round (inRound round S) d i y Y b (m .0) (m .1) (m .2) (λ e. n (sym e ∙ A .round))
+
 pub share-complete : ShareComplete
 unfolding writeShareIn
-share-complete S P d i Y x w e =
-    written-accepted S P d i Y x w 32 (write-settled S d i Y x w 32 (value-exactly Unit (writeShareChecks S d i Y x w 32) tt .0 e))
+share-complete S P k d i Y x w e =
+    written-accepted S P k d i Y x w 32 (write-settled S d i Y x w 32 (value-exactly Unit (writeShareChecks S d i Y x w 32) tt .0 e))
+
+pub share-for-other-round : ShareForOtherRound
+unfolding writeShareIn
+share-for-other-round S P k d i Y x w e =
+    refused-elsewhere S P k d i Y x w 32 (write-settled S d i Y x w 32 (value-exactly Unit (writeShareChecks S d i Y x w 32) tt .0 e))
 
 -- ---- the lent bytes
 pub lent-share : LentShare
 unfolding writeShareIn lentAfterShareIn
-lent-share S P d i Y x w out e =
+lent-share S P k d i Y x w out e =
     let checks = writeShareChecks S d i Y x w (length out) in
     let m = value-exactly Unit checks tt .0 e in
     ap (judgeShareIn S d i (keyOf (S .group) x) Y) (if-met (writtenShare S d i Y x w) out checks m)
-    ∙ written-accepted S P d i Y x w (length out) (write-settled S d i Y x w (length out) m)
+    ∙ written-accepted S P k d i Y x w (length out) (write-settled S d i Y x w (length out) m)
 
 pub lent-share-kept : LentShareKept
 unfolding writeShareIn lentAfterShareIn

@@ -3,7 +3,7 @@ use mathlib.Core.Path.{_≡_}
 use mathlib.Core.Bool.{true}
 use mathlib.Core.List.{List}
 use mathlib.Core.Logic.{_↔_}
-use Prim.Native.Nat.{ℕ, _<_, _≤_}
+use Prim.Native.Nat.{ℕ, _^_, _<_, _≤_}
 use lib.ListN.{length}
 use Rattle.words.specs.Checks.{value, refused, Met}
 use Rattle.words.specs.Bytes.{recordIn}
@@ -12,14 +12,14 @@ use Rattle.group.specs.Power.{pow}
 use Rattle.group.specs.Element.{isElement, Proper}
 use Rattle.group.specs.declared.Element.{Element}
 use Rattle.group.specs.declared.Group.{Group}
-use Rattle.sharing.specs.Setting.{ProperSetting, settingIn, roundChecks}
+use Rattle.sharing.specs.Setting.{ProperSetting, settingIn, inRound, roundChecks}
 use Rattle.sharing.specs.declared.Round.{Round}
 use Rattle.sharing.specs.declared.Setting.{Setting}
-use Rattle.records.specs.Layout.{isShareRecord, isRoundless, dealerOf, memberOf, ZOf, shareC, shareR}
+use Rattle.records.specs.Layout.{isShareRecord, dealerOf, memberOf, roundOf, ZOf, shareC, shareR}
 use Rattle.records.specs.Keys.{isKey}
 use Rattle.challenge.specs.Message.{shareTag}
 use Rattle.share.specs.Share.{keyOf, shareOf, writtenShare, writeShareIn, writeShareOutcome, lentAfterShareIn, lentAfterShare}
-use Rattle.share.specs.Share.{shareRecomputed, judgeShareFiguresIn, judgeShareIn, judgeShareOutcome}
+use Rattle.share.specs.Share.{membersChecks, shareInputChecks, isShareFor, shareRecomputed, judgeShareFiguresIn, judgeShareIn, judgeShareOutcome}
 
 -- ---- an accepted share
 -- what is settled before the figures: the numbers, what is handed over, and the form of the record r in the bytes b
@@ -32,7 +32,7 @@ pub record AdmittedShare (S : Setting) (d i y Y : ℕ) (b : List ℕ) (r : Recor
   pub kind : isShareRecord r ≡ true
   pub dealer-word : dealerOf r ≡ d
   pub member-word : memberOf r ≡ i
-  pub roundless : isRoundless r ≡ true
+  pub round : roundOf r ≡ S .round
 
 -- the figures of the record r, in a message of that tag
 pub record ShareHolds (tag : ℕ) (S : Setting) (d i y Y : ℕ) (r : Record) : Type 0 where
@@ -57,17 +57,31 @@ FiguresDecide =
     (S : Setting) (d i y Y : ℕ) (b : List ℕ) → AdmittedShare S d i y Y b (recordIn b)
     → judgeShareFiguresIn shareTag S d i y Y (recordIn b) ≡ judgeShareIn S d i y Y b
 
--- ---- a written share
+-- ---- rounds
+-- a share of another round is refused by 17 where nothing earlier refuses it: the numbers, what is handed over, and the form of its record
+abbrev pub ShareOfOtherRound : Type 0
+ShareOfOtherRound =
+    (S : Setting) (d i y Y : ℕ) (b : List ℕ) → Met (membersChecks S d i) → Met (shareInputChecks (S .group) y Y b)
+    → isShareFor d i (recordIn b) ≡ true → (roundOf (recordIn b) ≡ S .round → ⊥) → judgeShareIn S d i y Y b ≡ refused 17
+
+-- ---- a written share, in a round whose number is a word, as every lent one is
 -- what is written from a secret key is accepted with its key, and answers Z
 abbrev pub ShareComplete : Type 0
 ShareComplete =
-    (S : Setting) → ProperSetting S → (d i Y x w : ℕ) → writeShareIn S d i Y x w 32 ≡ value tt
+    (S : Setting) → ProperSetting S → S .round < 2 ^ 32 → (d i Y x w : ℕ) → writeShareIn S d i Y x w 32 ≡ value tt
     → judgeShareIn S d i (keyOf (S .group) x) Y (writtenShare S d i Y x w) ≡ value (record { 0 = shareOf (S .group) Y x })
+
+-- in the round that it is written for: in every other it is refused by 17
+abbrev pub ShareForOtherRound : Type 0
+ShareForOtherRound =
+    (S : Setting) → ProperSetting S → S .round < 2 ^ 32 → (d i Y x w : ℕ) → writeShareIn S d i Y x w 32 ≡ value tt
+    → (round : ℕ) → (round ≡ S .round → ⊥)
+    → judgeShareIn (inRound round S) d i (keyOf (S .group) x) Y (writtenShare S d i Y x w) ≡ refused 17
 
 -- the lent bytes are accepted where nothing is refused
 abbrev pub LentShare : Type 0
 LentShare =
-    (S : Setting) → ProperSetting S → (d i Y x w : ℕ) (out : List ℕ) → writeShareIn S d i Y x w (length out) ≡ value tt
+    (S : Setting) → ProperSetting S → S .round < 2 ^ 32 → (d i Y x w : ℕ) (out : List ℕ) → writeShareIn S d i Y x w (length out) ≡ value tt
     → judgeShareIn S d i (keyOf (S .group) x) Y (lentAfterShareIn S d i Y x w out) ≡ value (record { 0 = shareOf (S .group) Y x })
 
 -- and stay as they were where a number is refused

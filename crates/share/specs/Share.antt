@@ -1,6 +1,6 @@
 -- An opened share (a decrypted share) as it is written and as it is judged: in a setting, and over a round, whose own checks come first.
 -- The decrypted share, the paper's S, is Z here, for S is the setting.
-use mathlib.Core.Bool.{_&&_}
+use mathlib.Core.Bool.{Bool, _&&_}
 use mathlib.Core.List.{List, [], _∷_, _++_}
 use Prim.Native.Nat.{ℕ}
 use lib.ListN.{length}
@@ -16,7 +16,7 @@ use Rattle.group.specs.declared.Group.{Group}
 use Rattle.sharing.specs.Setting.{judged, judgedElse, isMember}
 use Rattle.sharing.specs.declared.Round.{Round}
 use Rattle.sharing.specs.declared.Setting.{Setting}
-use Rattle.records.specs.Layout.{shareLayout, isShareRecord, isRoundless, dealerOf, memberOf, ZOf, shareC, shareR}
+use Rattle.records.specs.Layout.{shareLayout, isShareRecord, isOfRound, dealerOf, memberOf, ZOf, shareC, shareR}
 use Rattle.records.specs.Keys.{isKey, isSecretKey}
 use Rattle.challenge.specs.Message.{challengeOf, shareMessage, shareTag}
 use Rattle.equality.specs.Equality.{announced, response}
@@ -44,7 +44,7 @@ writtenShareC tag S d i Y x w =
 unfoldable pub writtenShareRecord : Setting → ℕ → ℕ → ℕ → ℕ → ℕ → Record
 writtenShareRecord S d i Y x w =
     let c = writtenShareC shareTag S d i Y x w in
-    shareLayout d i (shareOf (S .group) Y x) c (response (S .group) w c x)
+    shareLayout d i (shareOf (S .group) Y x) c (response (S .group) w c x) (S .round)
 
 unfoldable pub writtenShare : Setting → ℕ → ℕ → ℕ → ℕ → ℕ → List ℕ
 writtenShare S d i Y x w = recordBytes (writtenShareRecord S d i Y x w)
@@ -84,15 +84,16 @@ unfoldable pub shareInputChecks : Group → ℕ → ℕ → List ℕ → List Ch
 shareInputChecks G y Y b = 3 unless eqb (length b) 32 ∷ 6 unless (isKey G y && isElement G Y) ∷ []
 
 -- a record of an opened share of i for d
-unfoldable pub shareFormChecks : ℕ → ℕ → Record → List Check
-shareFormChecks d i r =
-    4 unless (isShareRecord r && (eqb (dealerOf r) d && eqb (memberOf r) i))
-    ∷ 4 unless isRoundless r
-    ∷ []
+abbrev pub isShareFor : ℕ → ℕ → Record → Bool
+isShareFor d i r = isShareRecord r && (eqb (dealerOf r) d && eqb (memberOf r) i)
+
+-- and then of that round
+unfoldable pub shareFormChecks : ℕ → ℕ → ℕ → Record → List Check
+shareFormChecks round d i r = 4 unless isShareFor d i r ∷ 17 unless isOfRound round r ∷ []
 
 -- all that comes before the figures: on a board it is settled before shares are judged
 unfoldable pub shareAdmissionChecks : Setting → ℕ → ℕ → ℕ → ℕ → List ℕ → List Check
-shareAdmissionChecks S d i y Y b = membersChecks S d i ++ shareInputChecks (S .group) y Y b ++ shareFormChecks d i (recordIn b)
+shareAdmissionChecks S d i y Y b = membersChecks S d i ++ shareInputChecks (S .group) y Y b ++ shareFormChecks (S .round) d i (recordIn b)
 
 unfoldable pub shareFigureChecks : ℕ → Setting → ℕ → ℕ → ℕ → ℕ → Record → List Check
 shareFigureChecks tag S d i y Y r =

@@ -1,14 +1,11 @@
 // The judging of an opened share (a decrypted share).
 ghost use mathlib.Core.Path.{_≡_};
-ghost use mathlib.Core.Bool.{_&&_};
 ghost use Prim.Native.Nat.{_≤_};
-ghost use lib.Dec.{eqb};
 ghost use Rattle.words.specs.Checks.{refusal};
 ghost use Rattle.group.specs.Answer.{elementOutcomeOf};
 ghost use Rattle.sharing.specs.Setting.{ProperSetting};
-ghost use Rattle.records.specs.Layout.{isShareRecord, dealerOf, memberOf};
 ghost use Rattle.challenge.specs.Message.{shareTag};
-ghost use Rattle.share.specs.Share.{shareRecomputed, shareAdmissionChecks};
+ghost use Rattle.share.specs.Share.{isShareFor, shareRecomputed, shareAdmissionChecks};
 ghost use Rattle.share.specs.Share.{judgeShareFiguresIn, judgeShareIn, judgeShareOutcome};
 use crate::writer::are_members;
 use challenge::SHARE_TAG;
@@ -21,7 +18,7 @@ use group::Exponent;
 use group::is_element;
 use group::is_exponent;
 use records::is_key;
-use records::is_roundless;
+use records::is_of_round;
 use records::is_share_record;
 use sharing::Round;
 use sharing::Setting;
@@ -31,7 +28,7 @@ use words::Record;
 
 // Whether a record is an opened share of the member i for the dealer d.
 fn is_share_of(d: u32, i: u32, share: Record) -> bool
-    ensures { λ a. ⌜ a ≡ isShareRecord share && (eqb (dealerOf share) d && eqb (memberOf share) i) ⌝ }
+    ensures { λ a. ⌜ a ≡ isShareFor d i share ⌝ }
 {
     if !is_share_record(share) {
         return false;
@@ -42,7 +39,8 @@ fn is_share_of(d: u32, i: u32, share: Record) -> bool
     share.w2 == i
 }
 
-// The first number refused of all that comes before the figures: 8, 3, 6 for y or the encrypted share, and 4; 0 where none is.
+// The first number refused of all that comes before the figures: 8, 3, 6 for y or the encrypted share, 4 and 17; 0 where none
+// is.
 fn admission_refusal(s: Setting, d: u32, i: u32, y: Element, encrypted: Element, b: &[u8]) -> u32
     ensures { λ r. ⌜ r ≡ refusal (shareAdmissionChecks s d i (y .0) (encrypted .0) (now (b .entry))) ⌝ }
 {
@@ -62,8 +60,8 @@ fn admission_refusal(s: Setting, d: u32, i: u32, y: Element, encrypted: Element,
     if !is_share_of(d, i, share) {
         return 4;
     }
-    if !is_roundless(share) {
-        return 4;
+    if !is_of_round(s.round, share) {
+        return 17;
     }
     0
 }
@@ -144,7 +142,7 @@ pub fn judge_share_figures(
     judge_figures(s, SHARE_TAG, d, i, y, encrypted, share)
 }
 
-// The judging in a setting: 8, 3, 6, 4, 6, 7 and 10 as judge_share. Internal: callers ensure that the setting is proper.
+// The judging in a setting: 8, 3, 6, 4, 17, 6, 7 and 10 as judge_share. Internal: callers ensure that the setting is proper.
 pub fn judge_share_in(
     s: Setting,
     d: u32,
@@ -165,8 +163,8 @@ pub fn judge_share_in(
 
 // Judges the record b of an opened share of the member i for the dealer d, with the key y of the member and the encrypted share
 // of his line: an accepted one answers the decrypted share. Refused: 1 and 2 as setting_of; 8 d or i is no member; 3 not 32
-// bytes; 6 y or the encrypted share is no element, or y is 1; 4 no record of an opened share of i for d; 6 the decrypted share
-// is no element; 7 c or r is not below q; 10 c is not the recomputed one.
+// bytes; 6 y or the encrypted share is no element, or y is 1; 4 no record of an opened share of i for d; 17 one of another
+// round; 6 the decrypted share is no element; 7 c or r is not below q; 10 c is not the recomputed one.
 pub fn judge_share(
     rd: Round,
     d: u32,

@@ -89,7 +89,7 @@ fn put_share(
     };
     let c = share_challenge(s, SHARE_TAG, figures);
     let r = response(s.group, w, c, x);
-    words::write_record(out, share_record(d, i, decrypted, c, r));
+    words::write_record(out, share_record(d, i, decrypted, c, r, s.round));
 }
 
 // The writing in a setting: 8, 3, 6 and 7 as write_share. Internal: callers ensure that the setting is proper.

@@ -18,9 +18,9 @@ use Rattle.words.proofs.Stages.{met-both, rest-outcome, rest-choice, given-refu
 use Rattle.field.specs.Claims.{Nodes}
 use Rattle.group.specs.Table.{isGroup}
 use Rattle.group.proofs.Table.{table-proper, table-below, order-below}
-use Rattle.sharing.specs.Setting.{ProperSetting, settingIn, inRange, roundChecks, settingOutcomeOf, settingOutcome, judged, judgedElse, isMember, members}
+use Rattle.sharing.specs.Setting.{ProperSetting, settingIn, inRound, inRange, roundChecks, settingOutcomeOf, settingOutcome, judged, judgedElse, isMember, members}
 use Rattle.sharing.specs.Answer.{isQuorum}
-use Rattle.sharing.specs.Carried.{Quorum}
+use Rattle.sharing.specs.Carried.{Carries, Quorum}
 use Rattle.sharing.specs.declared.Round.{Round}
 use Rattle.sharing.specs.declared.Setting.{Setting}
 use Rattle.sharing.specs.declared.SettingAnswer.{SettingAnswer}
@@ -46,6 +46,25 @@ round-proper R m =
       t-positive = leb-true 1 (S .t) (d .0);
       t-most = leb-true (S .t) (S .n) (d .1);
     }
+
+-- ---- in the round of another number
+module _ {S : Setting} (round : ℕ) where
+  pub proper-in-round : ProperSetting S → ProperSetting (inRound round S)
+  proper-in-round P =
+      record {
+        proper = P .proper;
+        p-word = P .p-word;
+        q-word = P .q-word;
+        number-byte = P .number-byte;
+        n-positive = P .n-positive;
+        n-most = P .n-most;
+        n-below = P .n-below;
+        t-positive = P .t-positive;
+        t-most = P .t-most;
+      }
+
+  pub carries-in-round : {f vs : List ℕ} → Carries (inRound round S) f vs → Carries S f vs
+  carries-in-round K = record { polynomial = record { size = K .polynomial .size; low = K .polynomial .low }; powers = K .powers }
 
 -- ---- an operation over a round, where 1 and 2 do not refuse it
 module _ {A : Type 0} (R : Round) (checks : Setting → List Check) (answer : Setting → A) where

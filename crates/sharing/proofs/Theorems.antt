@@ -1,5 +1,5 @@
 -- The theorems of one dealing's commitments, as specs/Claims.antt states them.
-use mathlib.Core.Path.{sym, ap, _∙_}
+use mathlib.Core.Path.{refl, sym, ap, _∙_}
 use mathlib.Core.List.{List}
 use mathlib.Core.Logic.{⊎-elim}
 use Prim.Native.Nat.{ℕ, _-_, _<_}
@@ -8,9 +8,10 @@ use Rattle.words.specs.Checks.{value, isValue}
 use Rattle.words.proofs.Checks.{not-value}
 use Rattle.group.specs.Power.{pow}
 use Rattle.sharing.specs.Setting.{ProperSetting}
-use Rattle.sharing.specs.Answer.{degreeIn, degreeOutcome, openingIn, openingOutcome, recoveryIn, recoveryOutcome}
+use Rattle.sharing.specs.Answer.{degreeProduct, degreeFigures, degreeEquation, degreeIn, degreeOutcome, isOpening, openingFigures, openingEquation, openingIn, openingOutcome, isQuorum, recoveryIn, recoveryOutcome}
+use Rattle.sharing.specs.Weights.{gapsAt, weightAt, weightsOf}
 use Rattle.sharing.specs.Carried.{Commitments, secretOf, unitOf, place}
-use Rattle.sharing.specs.Claims.{LinearCheck, AlwaysCarried, UncarriedOneValue, CarriedPasses, CarriedExactly, OpeningExactly, QuorumRecovers, SecretOfCommitments, RoundBySetting}
+use Rattle.sharing.specs.Claims.{LinearCheck, AlwaysCarried, UncarriedOneValue, CarriedPasses, CarriedExactly, OpeningExactly, QuorumRecovers, SecretOfCommitments, RoundBySetting, InEveryRound}
 use Rattle.sharing.specs.declared.Setting.{Setting}
 use Rattle.sharing.proofs.Generators.{Exponents, exponents}
 use Rattle.sharing.proofs.Rounds.{round-proper, judged-in}
@@ -71,3 +72,7 @@ round-by-setting R m =
       opening = λ vs u. judged-in R _ _ m;
       recovery = λ ms ss. judged-in R _ _ m;
     }
+
+pub in-every-round : InEveryRound
+unfolding degreeIn degreeFigures degreeEquation degreeProduct weightsOf weightAt gapsAt openingIn openingFigures openingEquation isOpening recoveryIn isQuorum
+in-every-round S round = record { degree = λ vs ds. refl; opening = λ vs u. refl; recovery = λ ms ss. refl }

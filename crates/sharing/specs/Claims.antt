@@ -10,7 +10,7 @@ use Rattle.words.specs.Checks.{value, refused, Met}
 use Rattle.field.specs.Residue.{residueOps}
 use Rattle.field.specs.Polynomial.{dot}
 use Rattle.group.specs.Power.{pow}
-use Rattle.sharing.specs.Setting.{ProperSetting, settingIn, roundChecks}
+use Rattle.sharing.specs.Setting.{ProperSetting, settingIn, inRound, roundChecks}
 use Rattle.sharing.specs.Answer.{degreeIn, openingIn, recoveryIn, degreeOutcome, openingOutcome, recoveryOutcome}
 use Rattle.sharing.specs.Carried.{Carries, Commitments, Quorum, TrueShares, secretOf, CheckPolynomial, Passes, unitOf, place, AgreeOff, sumsAt}
 use Rattle.sharing.specs.declared.Round.{Round}
@@ -84,3 +84,12 @@ pub record AnswersIn (S : Setting) (R : Round) : Type 0 where
 
 abbrev pub RoundBySetting : Type 0
 RoundBySetting = (R : Round) → Met (roundChecks R) → AnswersIn (settingIn R) R
+
+-- The three operations do not depend on the round's number.
+pub record AnswersInRound (round : ℕ) (S : Setting) : Type 0 where
+  pub degree : (vs ds : List ℕ) → degreeIn (inRound round S) vs ds ≡ degreeIn S vs ds
+  pub opening : (vs : List ℕ) (u : ℕ) → openingIn (inRound round S) vs u ≡ openingIn S vs u
+  pub recovery : (ms ss : List ℕ) → recoveryIn (inRound round S) ms ss ≡ recoveryIn S ms ss
+
+abbrev pub InEveryRound : Type 0
+InEveryRound = (S : Setting) (round : ℕ) → AnswersInRound round S

@@ -13,7 +13,7 @@ use Rattle.sharing.specs.declared.SettingAnswer.{SettingAnswer}
 use Rattle.sharing.specs.declared.SettingAnswer.the-variants.{Value, Refused}
 
 -- all that is asked of a setting: a proper group whose figures fit a word, a number that fits a byte, n from 1 to 31 and below q,
--- t from 1 to n
+-- t from 1 to n. Any round's number is proper
 pub record ProperSetting (S : Setting) : Type 0 where
   pub proper : Proper (S .group)
   pub p-word : S .group .p < 2 ^ 32
@@ -27,7 +27,11 @@ pub record ProperSetting (S : Setting) : Type 0 where
 
 -- ---- from a round
 abbrev pub settingIn : Round → Setting
-settingIn R = record { group = groupOf (R .group); number = R .group; n = R .n; t = R .t }
+settingIn R = record { group = groupOf (R .group); number = R .group; n = R .n; t = R .t; round = R .round }
+
+-- the same setting in the round of another number
+abbrev pub inRound : ℕ → Setting → Setting
+inRound round S = record { group = S .group; number = S .number; n = S .n; t = S .t; round = round }
 
 -- n from 1 to 31 and below q, t from 1 to n
 unfoldable pub inRange : ℕ → ℕ → ℕ → Bool

@@ -24,19 +24,21 @@ pub use shares::opens;
 pub use shares::recovered_from;
 pub use weights::degree_passes;
 
-// A round's figures as they are lent, unjudged: the group's number, the number of members and the threshold.
+// A round's figures as they are lent, unjudged: the group's number, the number of members, the threshold and the round's number.
 pub struct Round {
     pub group: u32,
     pub n: u32,
     pub t: u32,
+    pub round: u32,
 }
 
-// What operations work on: the group, its number, the number of members and the threshold.
+// What operations work on: the group, its number, the number of members, the threshold and the round's number.
 pub struct Setting {
     pub group: Group,
     pub number: u32,
     pub n: u32,
     pub t: u32,
+    pub round: u32,
 }
 
 pub enum SettingAnswer {

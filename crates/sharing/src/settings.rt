@@ -41,5 +41,6 @@ pub fn setting_of(rd: Round) -> SettingAnswer
         number: rd.group,
         n: rd.n,
         t: rd.t,
+        round: rd.round,
     })
 }

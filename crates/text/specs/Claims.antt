@@ -15,11 +15,11 @@ TextFits = (J : Judges) (s b : List ℕ) → length (drawText J s b) ≤ 1024
 -- ---- the scope paper's round: group 1, n = 2, t = 1, and a board of the keys 12 and 9
 -- its round.set
 abbrev pub exampleSet : List ℕ
-exampleSet = recordBytes (setLayout 1 2 1)
+exampleSet = recordBytes (setLayout 1 2 1 0)
 
 -- its board.bin
 abbrev pub exampleBoard : List ℕ
-exampleBoard = recordBytes (keyLayout 1 12) ++ recordBytes (keyLayout 2 9)
+exampleBoard = recordBytes (keyLayout 1 12 0) ++ recordBytes (keyLayout 2 9 0)
 
 -- "round 1 2 1", "dealer 1 none", "dealer 2 none", "accepted 0", "refused 14", each with the end of a line
 abbrev pub exampleText : List ℕ

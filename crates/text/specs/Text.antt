@@ -10,7 +10,7 @@ use Rattle.group.specs.declared.Element.{Element}
 use Rattle.sharing.specs.Setting.{judged}
 use Rattle.sharing.specs.declared.Round.{Round}
 use Rattle.sharing.specs.declared.Setting.{Setting}
-use Rattle.records.specs.Layout.{setGroup, setN, setT, isSetRecord, isRoundless}
+use Rattle.records.specs.Layout.{setGroup, setN, setT, setRound, isSetRecord}
 use Rattle.board.specs.Board.{boardChecks}
 use Rattle.verdicts.specs.Verdict.{Judges, verdictsOn}
 use Rattle.verdicts.specs.Draw.{countAccepted, drawIn}
@@ -123,12 +123,11 @@ abbrev pub setChecks : List ℕ → List Check
 setChecks s =
     3 unless eqb (length s) 32
     ∷ 4 unless isSetRecord (recordIn s)
-    ∷ 4 unless isRoundless (recordIn s)
     ∷ []
 
 -- the round of its record
 abbrev pub roundIn : List ℕ → Round
-roundIn s = record { group = setGroup (recordIn s); n = setN (recordIn s); t = setT (recordIn s) }
+roundIn s = record { group = setGroup (recordIn s); n = setN (recordIn s); t = setT (recordIn s); round = setRound (recordIn s) }
 
 -- of the bytes of round.set and board.bin
 unfoldable pub drawText : Judges → List ℕ → List ℕ → List ℕ

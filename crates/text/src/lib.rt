@@ -14,7 +14,6 @@ mod report;
 
 use board::board_refusal_in;
 use lines::put_line;
-use records::is_roundless;
 use records::is_set_record;
 use report::put_report;
 use sharing::Round;
@@ -33,9 +32,6 @@ fn set_refusal(set: &[u8]) -> u32
     }
     let r = read_record(set);
     if !is_set_record(r) {
-        return 4;
-    }
-    if !is_roundless(r) {
         return 4;
     }
     0
@@ -69,6 +65,7 @@ pub fn draw_text(set: &[u8], board: &[u8], out: &mut [u8; 1024]) -> usize
         group: r.w1,
         n: r.w2,
         t: r.w3,
+        round: r.w4,
     };
     match setting_of(rd) {
         SettingAnswer::Refused(k) => put_line(out, 0, b"refused", k),

@@ -51,7 +51,7 @@ pub(crate) fn load(case: Record, space: &[u8], base: &mut [u8; 65568]) {
 }
 
 // Calls the operation of a case with its board. Argument 6 is the length of the set, which the payload has before the changes.
-pub(crate) fn run(case: Record, space: &[u8], base: &[u8]) {
+pub(crate) fn run(case: Record, round: u32, space: &[u8], base: &[u8]) {
     if case.w7 < case.w6 {
         return print::no_case();
     }
@@ -63,8 +63,8 @@ pub(crate) fn run(case: Record, space: &[u8], base: &[u8]) {
     let board = payload::part(&space_of_board, 0, length);
     let operation = case.w0;
     match operation {
-        11 => lines::check(case, board),
-        12 => lines::part(case, board),
+        11 => lines::check(case, round, board),
+        12 => lines::part(case, round, board),
         _ => draw_text::run(payload::part(space, 0, from), board),
     }
 }

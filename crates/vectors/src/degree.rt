@@ -4,11 +4,11 @@ use crate::payload;
 use crate::print;
 use words::Record;
 
-pub(crate) fn run(case: Record, space: &[u8]) {
+pub(crate) fn run(case: Record, round: u32, space: &[u8]) {
     let vs = payload::list(space, 0);
     let ds = payload::list(space, case.w4 as usize);
     let answer = sharing::degree_check(
-        payload::round(case),
+        payload::round(case, round),
         payload::first(&vs, case.w4),
         payload::first(&ds, case.w5),
     );

@@ -5,12 +5,12 @@ use crate::print;
 use group::Element;
 use words::Record;
 
-pub(crate) fn run(case: Record, space: &[u8]) {
+pub(crate) fn run(case: Record, round: u32, space: &[u8]) {
     let figures = payload::figures(space);
     let y = Element(figures.w0);
     let encrypted = Element(figures.w1);
     let record = payload::part(space, 8, case.w6 as usize);
-    let rd = payload::round(case);
+    let rd = payload::round(case, round);
     let answer = share::judge_share(rd, case.w4, case.w5, y, encrypted, record);
     print::element(b"judge_share ", answer);
 }

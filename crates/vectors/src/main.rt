@@ -30,29 +30,35 @@ fn read_payload(space: &mut [u8], count: usize) -> bool {
     io::read_full(STDIN_FILENO, &mut space[0..count]) == count
 }
 
-// Calls the operation of a case with its payload.
-fn run(case: Record, space: &mut [u8], base: &mut [u8; 65568]) {
+// Calls the operation of a case with its payload, in the round of that number.
+fn run(case: Record, round: u32, space: &mut [u8], base: &mut [u8; 65568]) {
     let operation = case.w0;
     match operation {
         1 => digest::run(case, space),
         2 => power::run(case),
-        3 => degree::run(case, space),
-        4 => opening::run(case, space),
-        5 => recovery::run(case, space),
+        3 => degree::run(case, round, space),
+        4 => opening::run(case, round, space),
+        5 => recovery::run(case, round, space),
         6 => equality_check::run(case, space),
-        7 => write_dealing::run(case, space),
-        8 => judge_dealing::run(case, space),
-        9 => write_share::run(case, space),
-        10 => judge_share::run(case, space),
-        11..=13 => boards::run(case, space, base),
+        7 => write_dealing::run(case, round, space),
+        8 => judge_dealing::run(case, round, space),
+        9 => write_share::run(case, round, space),
+        10 => judge_share::run(case, round, space),
+        11..=13 => boards::run(case, round, space, base),
         14 => boards::load(case, space, base),
         15 => pick_plots::run(case),
+        16 => print::length(b"round ", round as usize),
         _ => print::no_case(),
     }
 }
 
+// The number of the round that a case is run in: a case of its own sets it for those behind it.
+fn round_of(case: Record, before: u32) -> u32 {
+    if case.w0 == 16 { case.w1 } else { before }
+}
+
 // Replays one case. False at the end of the input, and after a case that cannot be read.
-fn replay(base: &mut [u8; 65568]) -> bool {
+fn replay(base: &mut [u8; 65568], round: &mut u32) -> bool {
     let mut header = [0u8; 32];
     let got = io::read_full(STDIN_FILENO, &mut header);
     if got == 0 {
@@ -65,15 +71,17 @@ fn replay(base: &mut [u8; 65568]) -> bool {
         print::no_case();
         return false;
     }
-    run(case, &mut space, base);
+    *round = round_of(case, *round);
+    run(case, *round, &mut space, base);
     true
 }
 
 // The turns are counted, since nothing says that the input ends.
 fn main() {
     let mut base = [0u8; 65568];
+    let mut round = 0;
     let mut turns = u32::MAX;
-    while turns > 0 && replay(&mut base) {
+    while turns > 0 && replay(&mut base, &mut round) {
         turns -= 1;
     }
 }

@@ -4,9 +4,9 @@ use crate::print;
 use group::Exponent;
 use words::Record;
 
-pub(crate) fn run(case: Record, space: &[u8]) {
+pub(crate) fn run(case: Record, round: u32, space: &[u8]) {
     let vs = payload::list(space, 0);
     let commitments = payload::first(&vs, case.w5);
-    let answer = sharing::opening(payload::round(case), commitments, Exponent(case.w4));
+    let answer = sharing::opening(payload::round(case, round), commitments, Exponent(case.w4));
     print::check(b"opening ", answer);
 }

@@ -2,12 +2,13 @@
 use sharing::Round;
 use words::Record;
 
-// The round of an operation whose first arguments are group, n and t.
-pub(crate) fn round(case: Record) -> Round {
+// The round of an operation whose first arguments are group, n and t, with the number that a case before it has set.
+pub(crate) fn round(case: Record, number: u32) -> Round {
     Round {
         group: case.w1,
         n: case.w2,
         t: case.w3,
+        round: number,
     }
 }
 

@@ -3,11 +3,11 @@ use crate::payload;
 use crate::print;
 use words::Record;
 
-pub(crate) fn run(case: Record, space: &[u8]) {
+pub(crate) fn run(case: Record, round: u32, space: &[u8]) {
     let ms = payload::list(space, 0);
     let ss = payload::list(space, case.w4 as usize);
     let answer = sharing::recovery(
-        payload::round(case),
+        payload::round(case, round),
         payload::first(&ms, case.w4),
         payload::first(&ss, case.w5),
     );

@@ -5,7 +5,7 @@ use crate::payload;
 use crate::print;
 use words::Record;
 
-pub(crate) fn run(case: Record, space: &mut [u8]) {
+pub(crate) fn run(case: Record, round: u32, space: &mut [u8]) {
     let figures = payload::figures(space);
     let size = figures.w0 as usize;
     if space.len() < size {
@@ -16,7 +16,7 @@ pub(crate) fn run(case: Record, space: &mut [u8]) {
     let f = payload::list(space, from);
     let ws = payload::list(space, from + figures.w2 as usize);
     let answer = dealing::write_dealing(
-        payload::round(case),
+        payload::round(case, round),
         case.w4,
         payload::first(&ys, figures.w1),
         payload::first(&f, figures.w2),

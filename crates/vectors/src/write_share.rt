@@ -6,7 +6,7 @@ use group::Element;
 use group::Exponent;
 use words::Record;
 
-pub(crate) fn run(case: Record, space: &mut [u8]) {
+pub(crate) fn run(case: Record, round: u32, space: &mut [u8]) {
     let size = case.w6 as usize;
     if space.len() < size {
         return print::no_case();
@@ -16,7 +16,7 @@ pub(crate) fn run(case: Record, space: &mut [u8]) {
     let x = Exponent(figures.w1);
     let w = Exponent(figures.w2);
     let answer = share::write_share(
-        payload::round(case),
+        payload::round(case, round),
         case.w4,
         case.w5,
         encrypted,

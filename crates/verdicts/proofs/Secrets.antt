@@ -55,7 +55,7 @@ module _ (J : Judges) {S : Setting} {b : List ℕ} {d : ℕ} (L : LinesOn S b d)
       let is = filter (isShareBy J S b d) (upFrom 0 (recordsIn b)) in
       map-all (λ i. memberOf (recordAt b i)) (λ m. m < S .group .q) (take (S .t) is)
       (All-take (λ i. memberOf (recordAt b i) < S .group .q) (S .t) is
-      (All-to is (λ i s. let z = shapes (S .n) b form i (omega (arith, s .0 .1)) .member in omega (arith, z, L .proper .n-below)) (filter-up (isShareBy J S b d) 0 (recordsIn b))))
+      (All-to is (λ i s. let z = shapes S b form i (omega (arith, s .0 .1)) .member in omega (arith, z, L .proper .n-below)) (filter-up (isShareBy J S b d) 0 (recordsIn b))))
 
   module _ {A : GatheredShares} (g : A ≡ lowestBy J S b d) where
     count-is : A .count ≡ length taken

@@ -32,7 +32,7 @@ use Rattle.board.specs.Search.{filter, recordsIn}
 use Rattle.board.specs.Board.{formChecks, placeOf, keyPlace, keyIn, keysIn, linesOf}
 use Rattle.board.specs.Sorted.{Sorted}
 use Rattle.board.proofs.Searches.{filter-run}
-use Rattle.board.proofs.Order.{reached, shapes, roundless, sorted}
+use Rattle.board.proofs.Order.{reached, shapes, of-round, sorted}
 use Rattle.board.proofs.Places.{place-within, run-rises, in-run, to-run}
 use Rattle.board.proofs.KeyRecords.{keys-exact}
 use Rattle.verdicts.specs.Verdict.{Judges, judges, shareAnswer, isShareBy, sharesBy}
@@ -80,11 +80,11 @@ module _ (S : Setting) (b : List ℕ) (d i : ℕ) (H : ShareOf b d i) (A : Gathe
 
 -- ---- on a board with the dealer's accepted lines
 module _ {S : Setting} {b : List ℕ} {d : ℕ} (L : LinesOn S b d) where
-  form : Met (formChecks (S .n) b)
+  form : Met (formChecks S b)
   form = reached S b (L .reached) .form
 
   pub lines-sorted : Sorted b
-  lines-sorted = sorted (S .n) b form
+  lines-sorted = sorted S b form
 
   -- the run of his shares
   pub run-share : (i : ℕ) → placeOf b shareKind d 0 ≤ i → i < placeOf b shareKind d 32 → ShareOf b d i
@@ -98,7 +98,7 @@ module _ {S : Setting} {b : List ℕ} {d : ℕ} (L : LinesOn S b d) where
       filter-run (isShareBy J S b d) (placeOf b shareKind d 0) (placeOf b shareKind d 32) (recordsIn b) (run-rises lines-sorted shareKind d) (place-within b shareKind d 32)
       (λ i h e.
       let s = share-address J S b d i e in
-      to-run lines-sorted shareKind d i h (s .0) (s .1) (omega (arith, shapes (S .n) b form i h .member, L .proper .n-most)))
+      to-run lines-sorted shareKind d i h (s .0) (s .1) (omega (arith, shapes S b form i h .member, L .proper .n-most)))
 
   -- ---- one share: its member's key and line are there, and all but its figures is settled
   module _ {i : ℕ} (H : ShareOf b d i) where
@@ -108,7 +108,7 @@ module _ {S : Setting} {b : List ℕ} {d : ℕ} (L : LinesOn S b d) where
     share-admitted : AdmittedShare S d m (keyIn b m) (YIn (linesOf b d) m) (take 32 (drop (32 * i) b)) (recordIn (take 32 (drop (32 * i) b)))
     unfolding recordAt
     share-admitted =
-        let s = shapes (S .n) b form i (H .inside) in
+        let s = shapes S b form i (H .inside) in
         let own = s .share (H .kind) in
         record {
           dealer = (omega (arith, own .1, H .dealer), omega (arith, s .dealer, H .dealer));
@@ -119,7 +119,7 @@ module _ {S : Setting} {b : List ℕ} {d : ℕ} (L : LinesOn S b d) where
           kind = own .0;
           dealer-word = H .dealer;
           member-word = refl;
-          roundless = roundless (S .n) b form i (H .inside);
+          round = of-round S b form i (H .inside);
         }
 
     pub share-dealer : d ≤ S .n

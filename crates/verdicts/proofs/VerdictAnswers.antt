@@ -16,7 +16,7 @@ use Rattle.sharing.specs.declared.CheckAnswer.{CheckAnswer}
 use Rattle.sharing.specs.declared.CheckAnswer.the-variants as answer-variants
 use Rattle.sharing.specs.declared.Setting.{Setting}
 use Rattle.records.proofs.Members.{members-exactly}
-use Rattle.dealing.specs.Dealing.{isLineFor, isLineOf, lineChecks, lineFigureChecks, judgeDealingIn}
+use Rattle.dealing.specs.Dealing.{isLineFor, isLineOf, isLineOfRound, lineChecks, lineFigureChecks, judgeDealingIn}
 use Rattle.dealing.proofs.Settled.{FormedDealing}
 use Rattle.dealing.proofs.Judged.{figures-decide}
 use Rattle.board.specs.Search.{recordsIn}
@@ -42,7 +42,10 @@ module _ (S : Setting) (b : List ℕ) (d : ℕ) (P : ProperSetting S) (m : Met (
     unfolding isLineFor
     line-own i h l =
         let r = line-record S b P (state .form) d (i - 1) (omega arith) in
-        true-and _ _ (true-and _ _ (r .0 .line (r .1) .0) (r .3)) (true-equal _ _ _ _ (r .2) (exact .by-member c i h l))
+        true-and _ _ (r .0 .line (r .1) .0) (true-equal _ _ _ _ (r .2) (exact .by-member c i h l))
+
+    line-ours : (i : ℕ) → 1 ≤ i → i ≤ S .n → isLineOfRound (S .round) (linesOf b d) i ≡ true
+    line-ours i h l = eq-eqb _ (S .round) (line-record S b P (state .form) d (i - 1) (omega arith) .3)
 
     formed : FormedDealing S d (keysIn (S .n) b) (linesOf b d)
     unfolding lineChecks
@@ -53,7 +56,10 @@ module _ (S : Setting) (b : List ℕ) (d : ℕ) (P : ProperSetting S) (m : Met (
           keys-size = map-length (keyIn b) (members (S .n)) ∙ up-length 1 (S .n);
           size = exact .size ∙ ap (λ (k : ℕ). 32 * k) c;
           keys = state .proper;
-          lines = (members-exactly (isLineOf d (linesOf b d)) (S .n) .1 line-own, tt);
+          lines = (
+            members-exactly (isLineOf d (linesOf b d)) (S .n) .1 line-own,
+            (members-exactly (isLineOfRound (S .round) (linesOf b d)) (S .n) .1 line-ours, tt),
+          );
         }
 
   -- ---- by the part that holds his lines, and the number of its records

@@ -3,4 +3,5 @@ pub mod Lists
 pub mod Tests
 pub mod Checks
 pub mod Stages
+pub mod Alike
 pub mod Bytes

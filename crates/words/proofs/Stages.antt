@@ -3,6 +3,7 @@
 use mathlib.Core.Path.{_≡_, refl, sym, ap, _∙_}
 use mathlib.Core.Bool.{Bool, true, false}
 use mathlib.Core.List.{List, [], _∷_, _++_}
+use mathlib.Core.Logic.{inr}
 use Prim.Native.Nat.{ℕ}
 use native.Mathlib.Omega.{arith}
 use lib.Dec.{ltb}
@@ -57,6 +58,10 @@ module _ (cs ds : List Check) (m : Met cs) where
 
   pub rest-choice : {A : Type 0} (a b : A) → ifMet ds a b ≡ ifMet (cs ++ ds) a b
   rest-choice {A} a b = sym (stages-choice A cs ds a b ∙ if-met (ifMet ds a b) b cs m)
+
+pub rest-first : (cs ds : List Check) (k : ℕ) → Met cs → FirstUnmet k ds → FirstUnmet k (cs ++ ds)
+rest-first [] ds k m u = u
+rest-first (c ∷ cs) ds k m u = inr (m .0, rest-first cs ds k (m .1) u)
 
 -- ---- a stage whose first check that is not met has the number k: nothing behind it matters
 module _ (cs ds : List Check) (k : ℕ) (u : FirstUnmet k cs) where

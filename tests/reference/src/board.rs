@@ -59,14 +59,16 @@ fn is_of_table(n: u32, record: &Record) -> bool {
     in_range && has_form(record)
 }
 
-/// 3 not whole records or too many; record by record 4 none of the table and then 5 not above the one before.
-fn check_form(n: u32, bytes: &[u8]) -> Answer<()> {
+/// 3 not whole records or too many; record by record 4 none of the table, then 17 of another round, and then 5 not above
+/// the one before.
+fn check_form(round: &Round, bytes: &[u8]) -> Answer<()> {
     require(bytes.len().is_multiple_of(SIZE), 3)?;
     require(bytes.len() / SIZE <= MOST, 3)?;
     // Every record of the table is above this.
     let mut before = [0; 3];
     for record in bytes.chunks_exact(SIZE).map(record::read) {
-        require(is_of_table(n, &record), 4)?;
+        require(is_of_table(round.n, &record), 4)?;
+        require(record[7] == round.round, 17)?;
         let [kind, dealer, member, ..] = record;
         let place = [kind, dealer, member];
         require(place > before, 5)?;
@@ -84,11 +86,11 @@ fn lines_of(bytes: &[u8], dealer: u32) -> &[u8] {
     &bytes[SIZE * start..SIZE * end]
 }
 
-/// The operation that gives the number for a dealer's lines: 1, 2; 8; then 3, 4 and 5 as for the board.
+/// The operation that gives the number for a dealer's lines: 1, 2; 8; then 3, 4, 17 and 5 as for the board.
 pub fn lines_check(figures: Figures, dealer: u32, bytes: &[u8]) -> Answer<()> {
     let round = figures.round()?;
     require(round.has_member(dealer), 8)?;
-    check_form(round.n, bytes)
+    check_form(&round, bytes)
 }
 
 /// The operation that gives a dealer's lines, none where the check refuses.
@@ -109,10 +111,10 @@ fn keys(round: &Round, bytes: &[u8]) -> Answer<Vec<u32>> {
     Ok(keys)
 }
 
-/// The operation: 1, 2; 3; record by record 4 and 5; 12; 6. Where these refuse nothing it answers what it judges.
+/// The operation: 1, 2; 3; record by record 4, 17 and 5; 12; 6. Where these refuse nothing it answers what it judges.
 pub fn judge_board(figures: Figures, bytes: &[u8]) -> Answer<Judged> {
     let round = figures.round()?;
-    check_form(round.n, bytes)?;
+    check_form(&round, bytes)?;
     let board = Board {
         figures,
         keys: keys(&round, bytes)?,
@@ -220,7 +222,7 @@ impl Board<'_> {
 mod tests {
     use super::*;
     use crate::modular::value_at;
-    use crate::posting::{opening_record, Members};
+    use crate::posting::Members;
     use crate::round::FOUR;
 
     const FIGURES: Figures = Figures { number: 3, ..FOUR };
@@ -230,14 +232,19 @@ mod tests {
 
     /// Keys, and each dealer's lines, opening and shares.
     fn everything() -> Vec<Record> {
-        let members = Members::new(FIGURES, &[5, 1, 2_147_483_542, 70_000]);
+        everything_of(0)
+    }
+
+    fn everything_of(round: u32) -> Vec<Record> {
+        let figures = FIGURES.with_round(round);
+        let members = Members::new(figures, &[5, 1, 2_147_483_542, 70_000]);
         let mut records = members.key_records();
         for (dealer, s) in (1..).zip(SECRETS) {
             let values = [1, 2, 3, 4].map(|i| value_at(&[s, 12_345], i, members.round.group.q));
             let lines = members.lines(dealer, &values, &[4, 3, 2, 1]);
             records.extend(lines.iter().map(|line| members.share(line, 9)));
             records.extend(lines);
-            records.push(opening_record(dealer, s));
+            records.push(members.opening(dealer, s));
         }
         records.sort();
         records
@@ -320,6 +327,8 @@ mod tests {
         records[8][7] = 1;
         assert_eq!(refusal(&records), Some(5));
         records[4][7] = 1;
+        assert_eq!(refusal(&records), Some(17));
+        records[4][1] = 5;
         assert_eq!(refusal(&records), Some(4));
         assert_eq!(refusal(&without(|r| r[0] == KEY && r[2] == 2)), Some(12));
         let mut records = everything();
@@ -331,6 +340,41 @@ mod tests {
         assert_eq!(refusal(&records), Some(3));
         assert_eq!(judge_board(FIGURES, &[0; 31]).err(), Some(3));
         assert_eq!(refusal(&[]), Some(12));
+    }
+
+    /// A board is judged in its own round as the same in round 0, and in no other.
+    #[test]
+    fn boards_of_rounds() {
+        for round in [0, 1, 0x0102_0304, u32::MAX] {
+            let records = everything_of(round);
+            assert!(records.iter().all(|record| record[7] == round));
+            let board = record::bytes(records);
+            let judged_in = |number| judge_board(FIGURES.with_round(number), &board);
+            let expected = judged(&everything());
+            assert_eq!(judged_in(round).unwrap().verdicts, expected.verdicts);
+            assert_eq!(judged_in(round).unwrap().draw, expected.draw);
+            for other in [0, 1, 2, u32::MAX - 1].into_iter().filter(|&r| r != round) {
+                assert_eq!(judged_in(other).err(), Some(17));
+                let answer = lines_check(FIGURES.with_round(other), 3, &board);
+                assert_eq!(answer, Err(17));
+                assert!(dealer_lines(FIGURES.with_round(other), 3, &board).is_empty());
+            }
+        }
+    }
+
+    /// Of a record with several faults its form counts first, then its round; of several records the first.
+    #[test]
+    fn the_round_between_form_and_order() {
+        for k in [1, 7, 20, 30] {
+            let mut records = everything();
+            records[k + 1][1] = 9;
+            records.swap(k - 1, k);
+            assert_eq!(refusal(&records), Some(5));
+            records[k][7] = 1;
+            assert_eq!(refusal(&records), Some(17));
+            records[k][0] = 5;
+            assert_eq!(refusal(&records), Some(4));
+        }
     }
 
     #[test]

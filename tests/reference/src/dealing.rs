@@ -51,11 +51,13 @@ pub fn deal(
     for (k, bytes) in out.chunks_exact_mut(SIZE).enumerate() {
         let [v, encrypted] = dealt[k];
         let r = response(&round.group, nonces[k], c, exponents[k]);
-        record::write([LINE, dealer, k as u32 + 1, v, encrypted, r, c, 0], bytes);
+        let member = k as u32 + 1;
+        let line = [LINE, dealer, member, v, encrypted, r, c, round.round];
+        record::write(line, bytes);
     }
 }
 
-/// The operation: 1, 2; 8; 3 other than n keys or 32n bytes; 6 a key; 4; 6 v or Y; 7 r or c; 9; 10.
+/// The operation: 1, 2; 8; 3 other than n keys or 32n bytes; 6 a key; 4; 17; 6 v or Y; 7 r or c; 9; 10.
 pub fn judge_dealing(figures: Figures, dealer: u32, keys: &[u32], bytes: &[u8]) -> Answer<()> {
     let round = figures.round()?;
     let group = &round.group;
@@ -67,6 +69,7 @@ pub fn judge_dealing(figures: Figures, dealer: u32, keys: &[u32], bytes: &[u8]) 
     for (member, line) in (1..).zip(&lines) {
         require(has_form(line) && line[..3] == [LINE, dealer, member], 4)?;
     }
+    require(lines.iter().all(|line| line[7] == round.round), 17)?;
     for [_, _, _, v, encrypted, ..] in &lines {
         require(group.all_elements(&[*v, *encrypted]), 6)?;
     }
@@ -92,38 +95,84 @@ mod tests {
     use crate::round::FOUR;
 
     const FIGURES: Figures = Figures { number: 3, ..FOUR };
+    const ROUNDS: [u32; 4] = [0, 1, 0x0102_0304, u32::MAX];
 
     fn keys() -> [u32; 4] {
         let group = FIGURES.round().unwrap().group;
         [5, 1, 2_147_483_542, 70_000].map(|x| group.power(H, x))
     }
 
-    fn written() -> [u8; 128] {
+    fn written(round: u32) -> [u8; 128] {
         let mut lines = [0; 128];
         let nonces = [1, 0, 2_147_483_542, 5];
-        let answer = write_dealing(FIGURES, 3, &keys(), &[3, 5], &nonces, &mut lines);
+        let figures = FIGURES.with_round(round);
+        let answer = write_dealing(figures, 3, &keys(), &[3, 5], &nonces, &mut lines);
         assert_eq!(answer, Ok(()));
         lines
     }
 
-    #[test]
-    fn a_written_dealing_is_accepted() {
-        assert_eq!(judge_dealing(FIGURES, 3, &keys(), &written()), Ok(()));
+    fn judged(round: u32, lines: &[u8]) -> Answer<()> {
+        judge_dealing(FIGURES.with_round(round), 3, &keys(), lines)
     }
 
-    /// A changed bit of the form is refused by 4, and of a figure by 6, 7, 9 or 10.
+    /// Puts a round's number in every line.
+    fn number(lines: &mut [u8], round: u32) {
+        for line in lines.chunks_exact_mut(SIZE) {
+            line[28..].copy_from_slice(&round.to_be_bytes());
+        }
+    }
+
+    #[test]
+    fn a_written_dealing_is_accepted() {
+        for round in ROUNDS {
+            let lines = written(round);
+            let mut numbered = lines;
+            number(&mut numbered, round);
+            assert_eq!(lines, numbered);
+            assert_eq!(judged(round, &lines), Ok(()));
+        }
+    }
+
+    /// A changed bit of the form is refused by 4, of the round by 17, and of a figure by 6, 7, 9 or 10.
     #[test]
     fn each_changed_bit_is_refused() {
-        for bit in 0..8 * 128 {
-            let mut lines = written();
-            lines[bit / 8] ^= 1 << (bit % 8);
-            let refused = judge_dealing(FIGURES, 3, &keys(), &lines).unwrap_err();
-            match bit / 32 % 8 {
-                0..=2 | 7 => assert_eq!(refused, 4),
-                3 => assert!([6, 9].contains(&refused)),
-                4 => assert!([6, 10].contains(&refused)),
-                _ => assert!([7, 10].contains(&refused)),
+        for round in ROUNDS {
+            for bit in 0..8 * 128 {
+                let mut lines = written(round);
+                lines[bit / 8] ^= 1 << (bit % 8);
+                let refused = judged(round, &lines).unwrap_err();
+                match bit / 32 % 8 {
+                    0..=2 => assert_eq!(refused, 4),
+                    7 => assert_eq!(refused, 17),
+                    3 => assert!([6, 9].contains(&refused)),
+                    4 => assert!([6, 10].contains(&refused)),
+                    _ => assert!([7, 10].contains(&refused)),
+                }
             }
+        }
+    }
+
+    /// The number alone does not make a dealing one of its round, since it is hashed.
+    #[test]
+    fn a_dealing_of_another_round_is_refused() {
+        for (round, other) in [(0, 1), (1, 0), (1, 2), (1, 257), (u32::MAX, 0)] {
+            let mut lines = written(round);
+            assert_eq!(judged(other, &lines), Err(17));
+            number(&mut lines, other);
+            assert_eq!(judged(other, &lines), Err(10));
+            assert_eq!(judged(round, &lines), Err(17));
+        }
+    }
+
+    #[test]
+    fn the_form_of_every_line_counts_before_a_round() {
+        for (k, j) in [(0, 3), (3, 0), (1, 1)] {
+            let mut lines = written(1);
+            lines[SIZE * k + 31] = 0;
+            assert_eq!(judged(1, &lines), Err(17));
+            // The member.
+            lines[SIZE * j + 11] = 9;
+            assert_eq!(judged(1, &lines), Err(4));
         }
     }
 

@@ -1,25 +1,29 @@
 //! The boards of tests/forged as the product's definitions write them, from what a record of each kind is up to the boards.
+//! They are of round 0.
 
 use crate::draw::SET;
 use crate::forge::{made, Board, Parts};
 use crate::record::{Record, KEY, LINE, OPENING, SHARE};
 
+/// The name of the round's number, which every kind has.
+const ROUND: &str = "round";
+
 /// The name of each kind of record, its number, and its other words: figures that are the same in all of them, and names
 /// of the others. Those of a board come first.
 const KINDS: [(&str, u32, [&str; 7]); 5] = [
-    ("key", KEY, ["0", "i", "y", "0", "0", "0", "0"]),
-    ("line", LINE, ["d", "i", "v", "Y", "r", "c", "0"]),
-    ("opening", OPENING, ["d", "0", "u", "0", "0", "0", "0"]),
-    ("share", SHARE, ["d", "i", "Z", "c", "r", "0", "0"]),
-    ("set", SET, ["g", "n", "t", "0", "0", "0", "0"]),
+    ("key", KEY, ["0", "i", "y", "0", "0", "0", ROUND]),
+    ("line", LINE, ["d", "i", "v", "Y", "r", "c", ROUND]),
+    ("opening", OPENING, ["d", "0", "u", "0", "0", "0", ROUND]),
+    ("share", SHARE, ["d", "i", "Z", "c", "r", "0", ROUND]),
+    ("set", SET, ["g", "n", "t", ROUND, "0", "0", "0"]),
 ];
 
-/// Whether a word of a kind is a name.
+/// Whether a word of a kind is a name other than the round's.
 fn is_name(word: &str) -> bool {
-    word.parse::<u32>().is_err()
+    word != ROUND && word.parse::<u32>().is_err()
 }
 
-/// The names among the words of a kind.
+/// The names among the words of a kind, without the round's.
 fn names(words: &[&str; 7]) -> String {
     let names: Vec<&str> = words.iter().copied().filter(|word| is_name(word)).collect();
     names.join(" ")
@@ -30,15 +34,15 @@ fn layout((name, _, words): &(&str, u32, [&str; 7])) -> String {
     let fields = (1..).zip(words).map(|(k, word)| format!("; w{k} = {word}"));
     let fields: String = fields.collect();
     format!(
-        "{name}Layout {} = record {{ w0 = {name}Kind{fields} }}\n",
+        "{name}Layout {} {ROUND} = record {{ w0 = {name}Kind{fields} }}\n",
         names(words)
     )
 }
 
-/// The bytes of a record of a kind.
+/// The bytes of a record of a kind in round 0.
 fn bytes((name, _, words): &(&str, u32, [&str; 7])) -> String {
     let names = names(words);
-    format!("{name} {names} = recordBytes ({name}Layout {names})\n")
+    format!("{name} {names} = recordBytes ({name}Layout {names} 0)\n")
 }
 
 /// A record: its kind, and the figures that the kind names.
@@ -49,8 +53,9 @@ fn term(record: &Record) -> String {
         if is_name(word) {
             term += &format!(" {figure}");
         } else {
+            let same = if *word == ROUND { "0" } else { word };
             assert_eq!(
-                *word,
+                same,
                 figure.to_string(),
                 "a word that the kind does not name"
             );
@@ -121,12 +126,19 @@ mod tests {
     }
 
     #[test]
+    #[should_panic(expected = "a word that the kind does not name")]
+    fn a_record_of_another_round() {
+        term(&[1, 0, 1, 6, 0, 0, 0, 1]);
+    }
+
+    #[test]
     fn every_definition_on_a_line() {
         let text = text();
         assert_eq!(text.lines().count(), 5 + 5 + 4 + 4 + 1 + 5);
         let opened = "openedBoard = boardOf firstLines (opening 1 3 ++ opening 2 6)\n";
         assert!(text.contains(opened));
-        assert!(text.contains("openingLayout d u = record { w0 = openingKind; w1 = d; w2 = 0; w3 = u; w4 = 0; w5 = 0; w6 = 0; w7 = 0 }\n"));
-        assert!(text.contains("opening d u = recordBytes (openingLayout d u)\n"));
+        assert!(text.contains("openingLayout d u round = record { w0 = openingKind; w1 = d; w2 = 0; w3 = u; w4 = 0; w5 = 0; w6 = 0; w7 = round }\n"));
+        assert!(text.contains("setLayout g n t round = record { w0 = setKind; w1 = g; w2 = n; w3 = t; w4 = round; w5 = 0; w6 = 0; w7 = 0 }\n"));
+        assert!(text.contains("opening d u = recordBytes (openingLayout d u 0)\n"));
     }
 }

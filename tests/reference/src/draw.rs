@@ -16,16 +16,21 @@ pub const SET: u32 = 9;
 
 /// The record that a round's set is.
 pub fn set_record(figures: Figures) -> Record {
-    let Figures { number, n, t } = figures;
-    [SET, number, n, t, 0, 0, 0, 0]
+    let Figures {
+        number,
+        n,
+        t,
+        round,
+    } = figures;
+    [SET, number, n, t, round, 0, 0, 0]
 }
 
 /// 3 not one record; 4 of another shape.
 fn read_set(bytes: &[u8]) -> Answer<Figures> {
     require(bytes.len() == SIZE, 3)?;
-    let [set, number, n, t, spare @ ..] = record::read(bytes);
-    require(set == SET && spare == [0; 4], 4)?;
-    Ok(Figures { number, n, t })
+    let [set, number, n, t, round, spare @ ..] = record::read(bytes);
+    require(set == SET && spare == [0; 3], 4)?;
+    Ok(Figures::of(number, n, t).with_round(round))
 }
 
 /// The text: the set is judged first, then the board.
@@ -41,7 +46,7 @@ fn refused(number: u32) -> String {
 
 /// The text of a board whose verdicts are reached.
 fn report(figures: Figures, judged: &Judged) -> String {
-    let Figures { number, n, t } = figures;
+    let Figures { number, n, t, .. } = figures;
     let mut text = format!("round {number} {n} {t}\n");
     for (dealer, verdict) in (1..).zip(&judged.verdicts) {
         text += &format!("dealer {dealer} {}\n", verdict_text(verdict));
@@ -84,10 +89,32 @@ pub fn text_of(folder: &Path) -> String {
 mod tests {
     use super::*;
     use crate::example::{of_keys_alone, Round};
+    use crate::round::FOUR;
+
+    #[test]
+    fn a_set_is_read_as_it_was_written() {
+        for round in [0, 1, 0x0102_0304, u32::MAX] {
+            let figures = FOUR.with_round(round);
+            let record = set_record(figures);
+            assert_eq!(record, [9, 1, 4, 2, round, 0, 0, 0]);
+            let read = read_set(&record::bytes([record])).unwrap();
+            assert_eq!(set_record(read), record);
+            for word in [0, 5, 6, 7] {
+                let mut other = record;
+                other[word] += 1;
+                assert_eq!(read_set(&record::bytes([other])).err(), Some(4));
+            }
+        }
+    }
 
     #[test]
     fn the_set_is_judged_first() {
         let Round { mut set, board } = of_keys_alone();
+        assert_eq!(text(&set, &board[1..]), "refused 3\n");
+        assert_eq!(text(&set, &[]), "refused 12\n");
+        // Word 4, the round.
+        set[19] = 1;
+        assert_eq!(text(&set, &board), "refused 17\n");
         assert_eq!(text(&set, &board[1..]), "refused 3\n");
         assert_eq!(text(&set, &[]), "refused 12\n");
         set[31] = 1;

@@ -3,7 +3,7 @@
 use crate::draw::{set_record, text, BOARD_FILE, SET_FILE};
 use crate::group::G;
 use crate::modular::value_at;
-use crate::posting::{opening_record, Members};
+use crate::posting::Members;
 use crate::record::{self, Record, KEY, OPENING, SHARE};
 use crate::round::{Figures, FOUR};
 
@@ -36,7 +36,7 @@ fn records() -> Vec<Record> {
         let lines = members.lines(dealer, &values, &nonces);
         // A member takes another nonce for each dealing.
         records.extend(lines.iter().map(|line| members.share(line, dealer + 5)));
-        records.push(opening_record(dealer, polynomial[0]));
+        records.push(members.opening(dealer, polynomial[0]));
         if dealer != 3 {
             records.extend(lines);
         }
@@ -71,11 +71,7 @@ pub fn files() -> [(&'static str, Vec<u8>); 3] {
 
 /// The scope paper's: two members of group 1, threshold 1, and their keys 12 and 9.
 pub fn of_keys_alone() -> Round {
-    let two = Figures {
-        number: 1,
-        n: 2,
-        t: 1,
-    };
+    let two = Figures::of(1, 2, 1);
     let keys = (1..).zip([12, 9]);
     Round {
         set: record::bytes([set_record(two)]),

@@ -5,7 +5,7 @@ use crate::dealing::judge_dealing;
 use crate::draw::{set_record, SET_FILE};
 use crate::group::G;
 use crate::modular::value_at;
-use crate::posting::{opening_record, Members};
+use crate::posting::Members;
 use crate::record::{self, Record, SHARE};
 use crate::round::FOUR;
 use crate::share::judge_share;
@@ -86,7 +86,7 @@ fn forged_share(members: &Members, line: &Record) -> Record {
     let key = members.keys[member as usize - 1];
     for c in 0..11 {
         for r in 0..11 {
-            let share = [SHARE, dealer, member, opened, c, r, 0, 0];
+            let share = [SHARE, dealer, member, opened, c, r, 0, FOUR.round];
             let bytes = record::bytes([share]);
             if judge_share(FOUR, dealer, member, key, encrypted, &bytes).is_ok() {
                 return share;
@@ -100,7 +100,7 @@ fn forged_share(members: &Members, line: &Record) -> Record {
 /// dealing; the same with member 1's share forged. Two with his dealing that no polynomial carries: members 1 and 2
 /// open their shares of it, or 1 and 3, all of them honestly. Dealer 2 has opened on each.
 fn boards(members: &Members, parts: &Parts) -> [Board; 5] {
-    let openings = [opening_record(1, FIRST[0]), opening_record(2, SECOND[0])];
+    let openings = [(1, FIRST), (2, SECOND)].map(|(dealer, f)| members.opening(dealer, f[0]));
     let shared = |one, other| vec![openings[1], one, other];
     let [one, two] = [0, 1].map(|k| members.share(&parts.first[k], 5));
     let forged = forged_share(members, &parts.first[0]);

@@ -7,6 +7,7 @@ mod board;
 mod dealing;
 mod definitions;
 mod draw;
+mod earlier;
 mod equality;
 mod example;
 mod forge;
@@ -38,8 +39,8 @@ type Done = Result<(), Box<dyn Error>>;
 
 const USAGE: &str =
     "usage: reference vectors DIR | forge DIR | example DIR | draw DIR | largest | digest FILE
-       reference rounds DIR | board GROUP N T opened|recovered DIR | case FILE
-       reference repeat OPERATION COUNT DIR | replay FILE";
+       reference rounds DIR | board GROUP N T ROUND opened|recovered DIR | case FILE
+       reference repeat OPERATION COUNT DIR | replay FILE | earlier LENGTH FILE";
 
 /// The primes p and q of group 3: the largest below 2^32.
 fn largest() -> (u64, u64) {
@@ -65,11 +66,12 @@ fn write_files(folder: &str, files: &[(&str, Vec<u8>)]) -> Done {
     Ok(())
 }
 
-fn figures(number: &str, n: &str, t: &str) -> Result<Figures, ParseIntError> {
+fn figures(number: &str, n: &str, t: &str, round: &str) -> Result<Figures, ParseIntError> {
     Ok(Figures {
         number: number.parse()?,
         n: n.parse()?,
         t: t.parse()?,
+        round: round.parse()?,
     })
 }
 
@@ -84,8 +86,8 @@ fn run(words: &[String]) -> Done {
         ["example", folder] => write_files(folder, &example::files())?,
         ["draw", folder] => print!("{}", draw::text_of(Path::new(folder))),
         ["rounds", folder] => println!("{}", rounds::write(Path::new(folder))?),
-        ["board", number, n, t, source, folder] => {
-            let figures = figures(number, n, t)?;
+        ["board", number, n, t, round, source, folder] => {
+            let figures = figures(number, n, t, round)?;
             write_files(folder, &bench::round(figures, source == "opened"))?;
         }
         ["case", file] => io::stdout().write_all(&bench::case(&fs::read(file)?))?,
@@ -97,6 +99,11 @@ fn run(words: &[String]) -> Done {
             let mut out = BufWriter::new(io::stdout().lock());
             replay::replay(&fs::read(file)?, &mut out)?;
             out.flush()?;
+        }
+        ["earlier", length, file] => {
+            let earlier = fs::read_to_string(file)?;
+            let changed = earlier::changed(&vectors::all(), length.parse()?, &earlier)?;
+            print!("{changed}");
         }
         ["largest"] => {
             let (p, q) = largest();

@@ -14,11 +14,19 @@ fn exponent(message: &[u8], q: u32) -> u32 {
     (number % u64::from(q)) as u32
 }
 
-/// The first bytes of every message, with room for so many bytes in all.
-fn head(tag: u8, round: &Round, dealer: u32, room: usize) -> Vec<u8> {
-    let mut message = Vec::with_capacity(room);
+/// The longest head.
+const HEAD: usize = 9;
+
+/// The first bytes of every message, with room for so many behind them. The round's number has no bytes in round 0, so
+/// that what was written before rounds had numbers stays right.
+fn head(tag: u8, round: &Round, dealer: u32, behind: usize) -> Vec<u8> {
+    let mut message = Vec::with_capacity(HEAD + behind);
     message.push(tag);
-    message.extend([round.number, round.n, round.t, dealer].map(|number| number as u8));
+    message.extend([round.number, round.n, round.t].map(|number| number as u8));
+    if round.round != 0 {
+        extend(&mut message, &[round.round]);
+    }
+    message.push(dealer as u8);
     message
 }
 
@@ -28,41 +36,141 @@ fn extend(message: &mut Vec<u8>, words: &[u32]) {
     }
 }
 
-/// The challenge of a dealing, from v and Y and from a1 and a2 of each line.
+/// What is hashed for a dealing: v and Y, and a1 and a2, of each line.
+fn dealing_message(
+    round: &Round,
+    dealer: u32,
+    dealt: &[[u32; 2]],
+    announced: &[[u32; 2]],
+) -> Vec<u8> {
+    let mut message = head(DEALING, round, dealer, 16 * dealt.len());
+    for (dealt, announced) in dealt.iter().zip(announced) {
+        extend(&mut message, dealt);
+        extend(&mut message, announced);
+    }
+    message
+}
+
+/// The challenge of a dealing.
 pub fn dealing_challenge(
     round: &Round,
     dealer: u32,
     dealt: &[[u32; 2]],
     announced: &[[u32; 2]],
 ) -> u32 {
-    let mut message = head(DEALING, round, dealer, 5 + 16 * dealt.len());
-    for (dealt, announced) in dealt.iter().zip(announced) {
-        extend(&mut message, dealt);
-        extend(&mut message, announced);
-    }
+    let message = dealing_message(round, dealer, dealt, announced);
     exponent(&message, round.group.q)
 }
 
-/// The challenge of an opened share, from y, Y, S, a1 and a2.
-pub fn share_challenge(round: &Round, dealer: u32, member: u32, words: &[u32; 5]) -> u32 {
-    let mut message = head(SHARE, round, dealer, 6 + 20);
+/// What is hashed for an opened share: the member, y, Y, S, a1 and a2.
+fn share_message(round: &Round, dealer: u32, member: u32, words: &[u32; 5]) -> Vec<u8> {
+    let mut message = head(SHARE, round, dealer, 1 + 20);
     message.push(member as u8);
     extend(&mut message, words);
+    message
+}
+
+/// The challenge of an opened share.
+pub fn share_challenge(round: &Round, dealer: u32, member: u32, words: &[u32; 5]) -> u32 {
+    let message = share_message(round, dealer, member, words);
     exponent(&message, round.group.q)
 }
 
-/// The judge's own check polynomial, from v and Y of each line.
-pub fn check_polynomial(round: &Round, dealer: u32, dealt: &[[u32; 2]]) -> Vec<u32> {
-    let mut message = head(COEFFICIENT, round, dealer, 6 + 8 * dealt.len());
+/// What is hashed for the first coefficient, from v and Y of each line, and where its place stands.
+fn first_coefficient(round: &Round, dealer: u32, dealt: &[[u32; 2]]) -> (Vec<u8>, usize) {
+    let mut message = head(COEFFICIENT, round, dealer, 1 + 8 * dealt.len());
     let place = message.len();
     message.push(0);
     for words in dealt {
         extend(&mut message, words);
     }
+    (message, place)
+}
+
+/// The judge's own check polynomial. The messages of its coefficients differ by the place alone.
+pub fn check_polynomial(round: &Round, dealer: u32, dealt: &[[u32; 2]]) -> Vec<u32> {
+    let (mut message, place) = first_coefficient(round, dealer, dealt);
     let mut coefficients = Vec::with_capacity((round.n - round.t) as usize);
     for k in 0..round.n - round.t {
         message[place] = k as u8;
         coefficients.push(exponent(&message, round.group.q));
     }
     coefficients
+}
+
+#[cfg(test)]
+mod tests {
+    use super::*;
+    use crate::round::{Figures, FOUR};
+
+    const DEALER: u32 = 3;
+    const MEMBER: u32 = 2;
+    const WORDS: [u32; 5] = [10, 20, 30, 40, 50];
+
+    fn round(n: u32, t: u32, number: u32) -> Round {
+        Figures::of(3, n, t).with_round(number).round().unwrap()
+    }
+
+    /// What is hashed for a dealing, a share and a coefficient, with figures that are nowhere the same.
+    fn messages(n: u32, number: u32) -> [Vec<u8>; 3] {
+        let round = round(n, 1, number);
+        let dealt: Vec<[u32; 2]> = (1..=n).map(|i| [i, 256 * i]).collect();
+        let announced: Vec<[u32; 2]> = (1..=n).map(|i| [1000 + i, 70_000 + i]).collect();
+        [
+            dealing_message(&round, DEALER, &dealt, &announced),
+            share_message(&round, DEALER, MEMBER, &WORDS),
+            first_coefficient(&round, DEALER, &dealt).0,
+        ]
+    }
+
+    #[test]
+    fn lengths() {
+        for number in [1, 256, u32::MAX] {
+            assert_eq!(messages(31, number).map(|m| m.len()), [505, 30, 258]);
+            assert_eq!(messages(1, number).map(|m| m.len()), [25, 30, 18]);
+        }
+        assert_eq!(messages(31, 0).map(|m| m.len()), [501, 26, 254]);
+        assert_eq!(messages(1, 0).map(|m| m.len()), [21, 26, 14]);
+    }
+
+    /// Without the four bytes behind t a message is that of round 0.
+    #[test]
+    fn the_number_stands_behind_t() {
+        for n in [1, 4, 31] {
+            for (mut message, before) in messages(n, 0x0102_0304).into_iter().zip(messages(n, 0)) {
+                assert_eq!(message[1..9], [3, n as u8, 1, 1, 2, 3, 4, DEALER as u8]);
+                message.drain(4..8);
+                assert_eq!(message, before);
+            }
+        }
+    }
+
+    /// As `sha256sum` has their digests.
+    #[test]
+    fn exponents_by_another_program() {
+        let numbered = round(4, 2, 0x0102_0304);
+        let of_share = |round: &Round| share_challenge(round, DEALER, MEMBER, &WORDS);
+        assert_eq!(of_share(&numbered), 508_200_328);
+        assert_eq!(of_share(&round(4, 2, 0)), 1_418_902_816);
+        let dealt = [[1, 2], [3, 4], [5, 6], [7, 8]];
+        let polynomial = check_polynomial(&numbered, DEALER, &dealt);
+        assert_eq!(polynomial, [1_778_503_140, 1_645_183_574]);
+        let two = round(2, 1, 0x0102_0304);
+        let challenge = dealing_challenge(&two, 2, &dealt[..2], &dealt[2..]);
+        assert_eq!(challenge, 858_714_260);
+    }
+
+    /// Each byte of the number counts.
+    #[test]
+    fn another_round_has_another_challenge() {
+        let challenge = |number| {
+            let round = Figures { number: 3, ..FOUR }.with_round(number).round();
+            share_challenge(&round.unwrap(), DEALER, MEMBER, &WORDS)
+        };
+        let numbers = [0, 1, 2, 256, 0x0001_0000, 0x0100_0000, u32::MAX];
+        let mut challenges = numbers.map(challenge).to_vec();
+        challenges.sort();
+        challenges.dedup();
+        assert_eq!(challenges.len(), numbers.len());
+    }
 }

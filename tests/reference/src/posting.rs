@@ -28,7 +28,8 @@ impl Members {
 
     pub fn key_records(&self) -> Vec<Record> {
         let keys = (1..).zip(&self.keys);
-        keys.map(|(i, &y)| [KEY, 0, i, y, 0, 0, 0, 0]).collect()
+        let record = |(i, &y)| [KEY, 0, i, y, 0, 0, 0, self.round.round];
+        keys.map(record).collect()
     }
 
     /// The lines of each member's exponent, whether some polynomial takes these as its values or not.
@@ -62,8 +63,8 @@ impl Members {
         written.expect("proper figures");
         record::read(&bytes)
     }
-}
 
-pub fn opening_record(dealer: u32, s: u32) -> Record {
-    [OPENING, dealer, 0, s, 0, 0, 0, 0]
+    pub fn opening(&self, dealer: u32, s: u32) -> Record {
+        [OPENING, dealer, 0, s, 0, 0, 0, self.round.round]
+    }
 }

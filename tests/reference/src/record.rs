@@ -1,6 +1,6 @@
 //! Records of 32 bytes: eight words, the most significant byte first.
 
-/// The words: the kind, the dealer, the member, and what the kind names from word 3 on.
+/// The words: the kind, the dealer, the member, what the kind names from word 3 on, and the round.
 pub type Record = [u32; 8];
 
 pub const SIZE: usize = 32;
@@ -32,7 +32,7 @@ pub fn bytes(records: impl IntoIterator<Item = Record>) -> Vec<u8> {
     words.flat_map(u32::to_be_bytes).collect()
 }
 
-/// Whether the kind is known and the words that it does not name are zero.
+/// Whether the kind is known and the words that it does not name are zero. Word 7 is the round's in every kind.
 pub fn has_form(record: &Record) -> bool {
     let named = match record[0] {
         KEY | OPENING => 4,
@@ -40,7 +40,7 @@ pub fn has_form(record: &Record) -> bool {
         LINE => 7,
         _ => return false,
     };
-    record[named..].iter().all(|&word| word == 0)
+    record[named..7].iter().all(|&word| word == 0)
 }
 
 #[cfg(test)]
@@ -64,7 +64,7 @@ mod tests {
                 assert!(has_form(&record));
                 if k > 0 {
                     record[k] = 1;
-                    assert_eq!(has_form(&record), k < named);
+                    assert_eq!(has_form(&record), k < named || k == 7);
                 }
             }
         }

@@ -22,8 +22,9 @@ use std::io::Write;
 
 type Read<T> = Result<T, Box<dyn Error>>;
 
-/// A case: its operation's number, its arguments and its payload.
+/// A case: the number of the round before it, its operation's number, its arguments and its payload.
 struct Case<'a> {
+    round: u32,
     operation: u32,
     arguments: [u32; 6],
     payload: &'a [u8],
@@ -31,11 +32,13 @@ struct Case<'a> {
 
 /// Prints what each case is answered.
 pub fn replay(mut input: &[u8], out: &mut impl Write) -> Done {
-    let mut base: &[u8] = &[];
+    let (mut base, mut round): (&[u8], u32) = (&[], 0);
     while !input.is_empty() {
-        let case = next(&mut input)?;
-        if case.operation == 14 {
-            base = case.payload;
+        let case = next(&mut input, round)?;
+        match case.operation {
+            14 => base = case.payload,
+            16 => round = case.arguments[0],
+            _ => {}
         }
         run(&case, base, out)?;
     }
@@ -43,9 +46,10 @@ pub fn replay(mut input: &[u8], out: &mut impl Write) -> Done {
 }
 
 /// The case at the front, which is taken off.
-fn next<'a>(input: &mut &'a [u8]) -> Read<Case<'a>> {
+fn next<'a>(input: &mut &'a [u8], round: u32) -> Read<Case<'a>> {
     let [operation, a, b, c, d, e, f, length] = record::read(part(input, SIZE)?);
     Ok(Case {
+        round,
         operation,
         arguments: [a, b, c, d, e, f],
         payload: part(input, length as usize)?,
@@ -89,6 +93,7 @@ fn run(case: &Case, base: &[u8], out: &mut impl Write) -> Done {
         13 => run_text(case, base, out),
         14 => print_length(out, b"base ", base.len()),
         15 => run_pick_plots(case, out),
+        16 => print_length(out, b"round ", case.arguments[0] as usize),
         _ => Err("no case".into()),
     }
 }
@@ -96,7 +101,7 @@ fn run(case: &Case, base: &[u8], out: &mut impl Write) -> Done {
 /// The figures of an operation whose first arguments are group, n and t.
 fn figures(case: &Case) -> Figures {
     let [number, n, t, ..] = case.arguments;
-    Figures { number, n, t }
+    Figures::of(number, n, t).with_round(case.round)
 }
 
 /// A number's decimal digits. Printing goes without the formatting of std, whose work would differ by the answer and be
@@ -313,7 +318,7 @@ mod tests {
 
     #[test]
     fn every_case_is_answered_as_it_was_written() {
-        let vectors = vectors::all();
+        let vectors = vectors::once();
         let mut out = Vec::new();
         replay(&vectors.stdin, &mut out).unwrap();
         assert!(String::from_utf8(out).unwrap() == vectors.stdout);
@@ -321,7 +326,7 @@ mod tests {
 
     #[test]
     fn what_is_no_case() {
-        let unknown = record::bytes([[16, 0, 0, 0, 0, 0, 0, 0]]);
+        let unknown = record::bytes([[17, 0, 0, 0, 0, 0, 0, 0]]);
         let cut = record::bytes([[1, 0, 0, 0, 0, 0, 0, 1]]);
         let without_payload = record::bytes([[6, 1, 0, 0, 0, 0, 0, 0]]);
         for input in [&unknown[..], &unknown[1..], &cut, &without_payload] {

@@ -1,4 +1,4 @@
-//! Rounds: a group, the number of members and the threshold.
+//! Rounds: a group, the number of members, the threshold and the round's number.
 
 use crate::answer::{require, Answer};
 use crate::group::{group, Group};
@@ -12,14 +12,11 @@ pub struct Figures {
     pub number: u32,
     pub n: u32,
     pub t: u32,
+    pub round: u32,
 }
 
 /// The round of the figures by hand.
-pub const FOUR: Figures = Figures {
-    number: 1,
-    n: 4,
-    t: 2,
-};
+pub const FOUR: Figures = Figures::of(1, 4, 2);
 
 /// A round whose figures are proper.
 pub struct Round {
@@ -27,12 +24,35 @@ pub struct Round {
     pub group: Group,
     pub n: u32,
     pub t: u32,
+    pub round: u32,
 }
 
 impl Figures {
-    /// The checks by which every operation begins: 1 no group of that number; 2 n or t outside its range.
+    /// The figures of round 0.
+    pub const fn of(number: u32, n: u32, t: u32) -> Figures {
+        let round = 0;
+        Figures {
+            number,
+            n,
+            t,
+            round,
+        }
+    }
+
+    /// The same figures in another round.
+    pub fn with_round(self, round: u32) -> Figures {
+        Figures { round, ..self }
+    }
+
+    /// The checks by which every operation begins: 1 no group of that number; 2 n or t outside its range. Any number is
+    /// a round's.
     pub fn round(self) -> Answer<Round> {
-        let Figures { number, n, t } = self;
+        let Figures {
+            number,
+            n,
+            t,
+            round,
+        } = self;
         let group = group(number)?;
         require((1..=MOST).contains(&n) && n < group.q, 2)?;
         require((1..=n).contains(&t), 2)?;
@@ -41,6 +61,7 @@ impl Figures {
             group,
             n,
             t,
+            round,
         })
     }
 }
@@ -57,7 +78,15 @@ mod tests {
     use super::*;
 
     fn refusal(number: u32, n: u32, t: u32) -> Option<u32> {
-        Figures { number, n, t }.round().err()
+        Figures::of(number, n, t).round().err()
+    }
+
+    #[test]
+    fn any_number_is_a_rounds() {
+        for number in [0, 1, 256, u32::MAX] {
+            let round = FOUR.with_round(number).round().unwrap();
+            assert_eq!(round.round, number);
+        }
     }
 
     #[test]

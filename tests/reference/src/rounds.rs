@@ -1,6 +1,7 @@
 //! Rounds that `draw` is run on: the files of each in a folder of its own, and the text that it has to print.
 
 mod lengths;
+mod numbered;
 mod places;
 mod played;
 mod sets;
@@ -97,6 +98,7 @@ fn all() -> Vec<Case> {
     places::add(&mut cases);
     lengths::add(&mut cases);
     sets::add(&mut cases);
+    numbered::add(&mut cases);
     cases.0
 }
 
@@ -121,12 +123,13 @@ mod tests {
         assert_eq!(names.len(), cases.len());
     }
 
-    /// The last lines of the cases have every number but 7 to 11, which only dealers are refused by.
+    /// The last lines of the cases have every number but 7 to 11, which only dealers are refused by, and 15 and 16, which are
+    /// of plots.
     #[test]
     fn every_ending() {
         let texts: Vec<String> = all().iter().map(Case::text).collect();
         let ends = |end: &str| texts.iter().any(|text| text.ends_with(end));
-        for number in [1, 2, 3, 4, 5, 6, 12, 13, 14] {
+        for number in [1, 2, 3, 4, 5, 6, 12, 13, 14, 17] {
             assert!(ends(&format!("refused {number}\n")), "{number}");
         }
         assert!(ends("draw 13\n"));

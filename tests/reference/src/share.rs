@@ -29,11 +29,11 @@ pub fn write_share(
     let [a1, a2] = [H, opened].map(|base| group.power(base, nonce));
     let c = share_challenge(&round, dealer, member, &[key, encrypted, opened, a1, a2]);
     let r = response(group, nonce, c, secret_key);
-    record::write([SHARE, dealer, member, opened, c, r, 0, 0], out);
+    record::write([SHARE, dealer, member, opened, c, r, 0, round.round], out);
     Ok(())
 }
 
-/// The operation, with the member's key and the Y of his line; it answers S. 1, 2; 8; 3; 6 y or Y; 4; 6 S; 7; 10.
+/// The operation, with the member's key and the Y of his line; it answers S. 1, 2; 8; 3; 6 y or Y; 4; 17; 6 S; 7; 10.
 pub fn judge_share(
     figures: Figures,
     dealer: u32,
@@ -52,6 +52,7 @@ pub fn judge_share(
         has_form(&record) && record[..3] == [SHARE, dealer, member],
         4,
     )?;
+    require(record[7] == round.round, 17)?;
     let [_, _, _, opened, c, r, ..] = record;
     require(group.is_element(opened), 6)?;
     require(group.all_exponents(&[c, r]), 7)?;
@@ -69,6 +70,7 @@ mod tests {
 
     const FIGURES: Figures = Figures { number: 3, ..FOUR };
     const SECRET_KEY: u32 = 1_000_000_007;
+    const ROUNDS: [u32; 4] = [0, 1, 0x0102_0304, u32::MAX];
 
     fn key() -> u32 {
         FIGURES.round().unwrap().group.power(H, SECRET_KEY)
@@ -79,31 +81,58 @@ mod tests {
         FIGURES.round().unwrap().group.power(key(), 77)
     }
 
-    fn written() -> [u8; SIZE] {
+    fn written(round: u32) -> [u8; SIZE] {
         let mut record = [0; SIZE];
-        let answer = write_share(FIGURES, 2, 4, encrypted(), SECRET_KEY, 99, &mut record);
+        let figures = FIGURES.with_round(round);
+        let answer = write_share(figures, 2, 4, encrypted(), SECRET_KEY, 99, &mut record);
         assert_eq!(answer, Ok(()));
         record
+    }
+
+    fn judged(round: u32, record: &[u8]) -> Answer<u32> {
+        let figures = FIGURES.with_round(round);
+        judge_share(figures, 2, 4, key(), encrypted(), record)
     }
 
     #[test]
     fn a_written_share_is_accepted_and_true() {
         let opened = FIGURES.round().unwrap().group.power(H, 77);
-        let answer = judge_share(FIGURES, 2, 4, key(), encrypted(), &written());
-        assert_eq!(answer, Ok(opened));
+        for round in ROUNDS {
+            let record = written(round);
+            assert_eq!(record[28..], round.to_be_bytes());
+            assert_eq!(judged(round, &record), Ok(opened));
+        }
     }
 
+    /// A changed bit of the form is refused by 4, of the round by 17, and of a figure by 6, 7 or 10.
     #[test]
     fn each_changed_bit_is_refused() {
-        for bit in 0..8 * SIZE {
-            let mut record = written();
-            record[bit / 8] ^= 1 << (bit % 8);
-            let refused = judge_share(FIGURES, 2, 4, key(), encrypted(), &record).unwrap_err();
-            match bit / 32 {
-                0..=2 | 6 | 7 => assert_eq!(refused, 4),
-                3 => assert!([6, 10].contains(&refused)),
-                _ => assert!([7, 10].contains(&refused)),
+        for round in ROUNDS {
+            for bit in 0..8 * SIZE {
+                let mut record = written(round);
+                record[bit / 8] ^= 1 << (bit % 8);
+                let refused = judged(round, &record).unwrap_err();
+                match bit / 32 {
+                    0..=2 | 6 => assert_eq!(refused, 4),
+                    7 => assert_eq!(refused, 17),
+                    3 => assert!([6, 10].contains(&refused)),
+                    _ => assert!([7, 10].contains(&refused)),
+                }
             }
+        }
+    }
+
+    /// The number alone does not make a share one of its round, since it is hashed.
+    #[test]
+    fn a_share_of_another_round_is_refused() {
+        for (round, other) in [(0, 1), (1, 0), (1, 2), (1, 257), (u32::MAX, 0)] {
+            let mut record = written(round);
+            assert_eq!(judged(other, &record), Err(17));
+            record[28..].copy_from_slice(&other.to_be_bytes());
+            assert_eq!(judged(other, &record), Err(10));
+            // A spare word.
+            record[27] = 1;
+            assert_eq!(judged(round, &record), Err(4));
         }
     }
 }

@@ -174,7 +174,7 @@ mod tests {
     #[test]
     fn one_check_polynomial_in_q_passes_what_is_not_carried() {
         for t in 1..3 {
-            let three = Figures { t, n: 3, number: 1 };
+            let three = Figures::of(1, 3, t);
             let group = three.round().unwrap().group;
             let polynomials = every_list(t as usize);
             let carried: Vec<_> = polynomials.iter().map(|f| powers(three, G, f)).collect();
@@ -195,11 +195,7 @@ mod tests {
 
     #[test]
     fn every_quorum_recovers_what_the_opening_gives() {
-        let five = Figures {
-            number: 2,
-            n: 5,
-            t: 3,
-        };
+        let five = Figures::of(2, 5, 3);
         let group = five.round().unwrap().group;
         let polynomial = [717, 0, 1018];
         let commitments = powers(five, G, &polynomial);

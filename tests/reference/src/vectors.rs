@@ -6,9 +6,12 @@
 //! The text has a line for each case: the operation's name, and its value or `refused` with its number. Behind the line
 //! of a case of `draw`'s text that text follows.
 //!
-//! Boards are given as changes of a base board, which a case of its own loads.
+//! Boards are given as changes of a base board, which a case of its own loads. The number of the round too has a case of
+//! its own: argument 1 is the round of all cases behind it that take a round's figures. Before the first it is 0. The
+//! text of `draw` has its round from the set.
 
 pub mod boards;
+pub mod cases;
 #[cfg(test)]
 mod coverage;
 mod degree;
@@ -21,11 +24,13 @@ mod opening;
 pub mod pick_plots;
 mod power;
 mod recovery;
+mod rounds;
 pub mod sample;
 mod write_dealing;
 mod write_share;
 
 use crate::answer::Answer;
+use crate::round::Figures;
 
 /// An operation as the cases name it.
 struct Operation {
@@ -38,11 +43,17 @@ const BASE: Operation = Operation {
     name: "base",
 };
 
+const ROUND: Operation = Operation {
+    number: 16,
+    name: "round",
+};
+
 #[derive(Default)]
 pub struct Vectors {
     pub stdin: Vec<u8>,
     pub stdout: String,
     base: Vec<u8>,
+    round: u32,
 }
 
 impl Vectors {
@@ -50,6 +61,22 @@ impl Vectors {
     fn load(&mut self, board: &[u8]) {
         self.line(&BASE, &[], board, &board.len().to_string());
         self.base = board.to_vec();
+    }
+
+    /// Group, n and t, the first arguments of a case that takes a round's figures. Where the last round was another, a
+    /// case with its number comes before.
+    fn round(&mut self, figures: Figures) -> [u32; 3] {
+        let Figures {
+            number,
+            n,
+            t,
+            round,
+        } = figures;
+        if round != self.round {
+            self.line(&ROUND, &[round], &[], &round.to_string());
+            self.round = round;
+        }
+        [number, n, t]
     }
 
     /// Adds a case with what the operation answers to it. Returns the number that it is refused by.
@@ -117,7 +144,7 @@ pub fn bytes(words: &[u32]) -> Vec<u8> {
     words.iter().flat_map(|word| word.to_be_bytes()).collect()
 }
 
-/// Every case, operation by operation.
+/// Every case, operation by operation, and behind these the cases of rounds other than 0.
 pub fn all() -> Vectors {
     let mut vectors = Vectors::default();
     digest::add(&mut vectors);
@@ -132,7 +159,15 @@ pub fn all() -> Vectors {
     judge_share::add(&mut vectors);
     boards::add(&mut vectors);
     pick_plots::add(&mut vectors);
+    rounds::add(&mut vectors);
     vectors
+}
+
+/// The same for all tests.
+#[cfg(test)]
+pub fn once() -> &'static Vectors {
+    static VECTORS: std::sync::OnceLock<Vectors> = std::sync::OnceLock::new();
+    VECTORS.get_or_init(all)
 }
 
 /// Two hexadecimal digits for each byte.

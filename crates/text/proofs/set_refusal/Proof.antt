@@ -10,17 +10,17 @@ use Rattle.words.specs.Bytes.{recordIn}
 use Rattle.words.specs.Checks.{refusal}
 use Rattle.words.specs.declared.Record.{Record}
 use Rattle.words.proofs.Tests.{passed, failed, pick-true, pick-false}
-use Rattle.records.specs.Layout.{isSetRecord, isRoundless}
+use Rattle.records.specs.Layout.{isSetRecord}
 use Rattle.text.specs.Text.{setChecks}
 use Rattle.text.proofs.set_refusal.Statement.{statement}
 use Rattle.text.proofs.set_refusal.Tie as tie
 
 -- of one record, by its tests
 one-record : (s : List ℕ) {r : Record} → length s ≡ 32 → r ≡ recordIn s
-    → refusal (setChecks s) ≡ pick (isSetRecord r) (pick (isRoundless r) 0 4) 4
+    → refusal (setChecks s) ≡ pick (isSetRecord r) 0 4
 one-record s h e =
     pick-true (eqb (length s) 32) _ 3 (eq-eqb (length s) 32 h)
-    ∙ ap (λ (x : Record). pick (isSetRecord x) (pick (isRoundless x) 0 4) 4) (sym e)
+    ∙ ap (λ (x : Record). pick (isSetRecord x) 0 4) (sym e)
 
 returns : tie.Need-returns
 returns c = let s = c .before .before .args .set .now in sym (pick-false (eqb (length s) 32) _ 3 (ne-eqb (length s) 32 (c .if1 .taken)))
@@ -37,33 +37,12 @@ returns-2 c =
     sym (one-record _ (r .before .if1 .left) (r .read-record .ensures)
     ∙ pick-false _ _ 4 (failed (c .before .is-set-record .ensures) (c .if2 .taken)))
 
-is-roundless-requires : tie.Need-is-roundless-requires
-is-roundless-requires c κs = tt
-
 returns-3 : tie.Need-returns-3
 returns-3 c =
-    let k = c .before .before in
-    let r = k .before .before in
+    let r = c .before .before in
     sym (one-record _ (r .before .if1 .left) (r .read-record .ensures)
-    ∙ pick-true _ _ 4 (passed (k .before .is-set-record .ensures) (k .if2 .left))
-    ∙ pick-false _ 0 4 (failed (c .before .is-roundless .ensures) (c .if3 .taken)))
-
-returns-4 : tie.Need-returns-4
-returns-4 c =
-    let k = c .before .before in
-    let r = k .before .before in
-    sym (one-record _ (r .before .if1 .left) (r .read-record .ensures)
-    ∙ pick-true _ _ 4 (passed (k .before .is-set-record .ensures) (k .if2 .left))
-    ∙ pick-true _ 0 4 (passed (c .before .is-roundless .ensures) (c .if3 .left)))
+    ∙ pick-true _ 0 4 (passed (c .before .is-set-record .ensures) (c .if2 .left)))
 
 pub set-refusal-spec : {M : Type 1} → statement M
 set-refusal-spec =
-    tie.close
-    (tie.spec
-    returns
-    read-record-requires
-    is-set-record-requires
-    returns-2
-    is-roundless-requires
-    returns-3
-    returns-4)
+    tie.close (tie.spec returns read-record-requires is-set-record-requires returns-2 returns-3)

@@ -4,10 +4,10 @@ use Rattle.vectors.proofs.main.Statement.{statement}
 use Rattle.vectors.proofs.main.Tie as tie
 
 abbrev Inv-loop : tie.InvT-loop
-Inv-loop base₀ turns₀ base turns = Unit {0}
+Inv-loop base₀ round₀ turns₀ base round turns = Unit {0}
 
 abbrev μ-loop : tie.MeasureT-loop
-μ-loop base₀ turns₀ base turns = turns
+μ-loop base₀ round₀ turns₀ base round turns = turns
 
 loop-holds : tie.Need-loop-holds Inv-loop μ-loop
 loop-holds c = tt

@@ -14,11 +14,7 @@ use crate::vectors::boards::posted::{any_members, is_line, Posted};
 use crate::vectors::sample::{keys, list, proper};
 use crate::vectors::{buffered, bytes};
 
-const LARGEST: Figures = Figures {
-    number: 3,
-    n: 31,
-    t: 16,
-};
+const LARGEST: Figures = Figures::of(3, 31, 16);
 
 /// The dealer and the member of the cases.
 const DEALER: u32 = 31;

@@ -81,11 +81,7 @@ fn behind(cases: &mut Cases) {
 
 /// Everything that can be posted, by the most members: 1,984 records, and behind these no record is proper.
 fn everything() -> Round {
-    let figures = Figures {
-        number: 3,
-        n: 31,
-        t: 1,
-    };
+    let figures = Figures::of(3, 31, 1);
     let mut numbers = Numbers::new(32);
     let members = any_members(figures, &mut numbers);
     let posted = Posted::everything(&members, &mut numbers);
@@ -106,10 +102,10 @@ fn most_that_is_proper(cases: &mut Cases) {
     for (name, parts, end) in [
         ("", [board, &[]], "draw "),
         ("-cut", [front, &last[..SIZE - 1]], "refused 3"),
-        ("-spoiled", [front, &spoiled], "refused 4"),
+        ("-spoiled", [front, &spoiled], "refused 17"),
         ("-and-a-byte", [board, &[0]], "refused 3"),
         ("-and-its-last", [board, last], "refused 5"),
-        ("-and-a-spoiled", [board, &spoiled], "refused 4"),
+        ("-and-a-spoiled", [board, &spoiled], "refused 17"),
     ] {
         cases.with_board(&format!("everything{name}"), &round, parts.concat(), end);
     }

@@ -36,8 +36,7 @@ fn largest(cases: &mut Cases) {
     for number in [2, 3] {
         for t in [1, 16, 31] {
             for (is_opened, source) in [(true, "opened"), (false, "recovered")] {
-                let figures = Figures { number, n: 31, t };
-                let [(_, set), (_, board)] = bench::round(figures, is_opened);
+                let [(_, set), (_, board)] = bench::round(Figures::of(number, 31, t), is_opened);
                 let name = format!("largest-{number}-{t}-{source}");
                 cases.files(&name, &Round { set, board }, "draw ");
             }
@@ -59,13 +58,8 @@ fn small(cases: &mut Cases) {
 
 /// A round whose files are one record each.
 pub fn one_member() -> Round {
-    let one = Figures {
-        number: 3,
-        n: 1,
-        t: 1,
-    };
     Round {
-        set: record::bytes([set_record(one)]),
+        set: record::bytes([set_record(Figures::of(3, 1, 1))]),
         board: record::bytes([[KEY, 0, 1, H, 0, 0, 0, 0]]),
     }
 }

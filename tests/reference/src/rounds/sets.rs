@@ -22,7 +22,7 @@ fn shapes(cases: &mut Cases) {
         let name = format!("set-kind-{kind}");
         cases.with_set(&name, &round, changed(0, kind), "refused 4");
     }
-    for word in 4..8 {
+    for word in 5..8 {
         let name = format!("set-word-{word}");
         cases.with_set(&name, &round, changed(word, 1), "refused 4");
     }

@@ -2,13 +2,13 @@
 //! and the sixth the set's, which is 0 for a dealer's lines; the payload has the set, and the board as changes of the
 //! base. The text's length is in the case's line, and the text follows it.
 
-mod damaged;
-mod forging;
+pub mod damaged;
+pub mod forging;
 mod form;
-mod lines;
-mod played;
+pub mod lines;
+pub mod played;
 pub mod posted;
-mod refused;
+pub mod refused;
 mod splices;
 mod varied;
 
@@ -32,7 +32,7 @@ const LARGEST: [(u32, u32); 4] = [(2, 16), (3, 1), (3, 16), (3, 31)];
 
 impl Posted {
     /// Adds a case. Returns the text.
-    fn add(&self, vectors: &mut Vectors) -> String {
+    pub fn add(&self, vectors: &mut Vectors) -> String {
         add_files(vectors, &self.set, &self.board())
     }
 }
@@ -58,12 +58,12 @@ fn refusal(line: &str) -> Option<u32> {
 }
 
 /// The number in the text's last line, where this is a refusal.
-fn refused_by(text: &str) -> Option<u32> {
+pub fn refused_by(text: &str) -> Option<u32> {
     refusal(text.lines().last().expect("a text has lines"))
 }
 
 /// The number in a dealer's line, where it is a refusal.
-fn dealer_refused_by(text: &str, dealer: u32) -> Option<u32> {
+pub fn dealer_refused_by(text: &str, dealer: u32) -> Option<u32> {
     let start = format!("dealer {dealer} ");
     refusal(text.lines().find(|line| line.starts_with(&start))?)
 }
@@ -79,7 +79,7 @@ pub fn add(vectors: &mut Vectors) {
         of_group(vectors, number, &mut numbers);
     }
     for (number, t) in LARGEST {
-        let figures = Figures { number, n: 31, t };
+        let figures = Figures::of(number, 31, t);
         let all = Posted::loaded(vectors, figures, &mut numbers);
         played::add(vectors, figures, &all);
         match (number, t) {
@@ -98,17 +98,17 @@ pub fn add(vectors: &mut Vectors) {
 
 /// Boards of small rounds that are damaged, of improper form, refused and forged.
 fn of_group(vectors: &mut Vectors, number: u32, numbers: &mut Numbers) {
-    let three = Figures { number, n: 3, t: 2 };
+    let three = Figures::of(number, 3, 2);
     let all = Posted::loaded(vectors, three, numbers);
     damaged::small(vectors, three, &all);
     form::add(vectors, &all);
-    let four = Figures { number, n: 4, t: 2 };
+    let four = Figures::of(number, 4, 2);
     let all = Posted::loaded(vectors, four, numbers);
     if number != 2 {
         lines::add(vectors, four, &all);
     }
     refused::add(vectors, four, &all);
-    let five = Figures { number, n: 5, t: 3 };
+    let five = Figures::of(number, 5, 3);
     let all = Posted::loaded(vectors, five, numbers);
     forging::add(vectors, five, &all);
 }

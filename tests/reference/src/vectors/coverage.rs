@@ -1,7 +1,10 @@
 //! Tests that the vectors have every class of cases.
 
-use super::boards::applied;
-use super::{all, Vectors};
+mod others;
+mod rounds;
+
+use super::cases::{read, Case};
+use super::{once, Vectors};
 use crate::draw;
 use crate::group::group;
 use crate::plots::rank;
@@ -9,63 +12,42 @@ use crate::record::{self, Record, SIZE};
 use std::collections::BTreeSet;
 use std::sync::OnceLock;
 
-/// A case as the product's program reads it, with the line that it prints.
-struct Case {
-    operation: u32,
-    arguments: [u32; 6],
-    payload: Vec<u8>,
-    answer: String,
-    /// The set, the board and the text of a case of the text.
-    files: Option<(Vec<u8>, Vec<u8>, String)>,
-}
-
 /// Every case.
-fn cases() -> &'static [Case] {
+fn cases() -> &'static [Case<'static>] {
     static CASES: OnceLock<Vec<Case>> = OnceLock::new();
-    CASES.get_or_init(read_cases)
+    CASES.get_or_init(|| {
+        let Vectors { stdin, stdout, .. } = once();
+        read(stdin, stdout).unwrap()
+    })
 }
 
-/// Reads the cases again, each with its line and, of the text, so many bytes behind it as the line says.
-fn read_cases() -> Vec<Case> {
-    let Vectors { stdin, stdout, .. } = all();
-    let (mut input, mut output) = (&stdin[..], &stdout[..]);
-    let (mut cases, mut base) = (Vec::new(), Vec::new());
-    while !input.is_empty() {
-        let [operation, a, b, c, d, e, f, length] = record::read(input);
-        let (payload, rest) = input[SIZE..].split_at(length as usize);
-        let (line, mut behind) = output.split_once('\n').unwrap();
-        let (_, answer) = line.split_once(' ').unwrap();
-        let mut files = None;
-        if operation == 14 {
-            base = payload.to_vec();
-        }
-        if operation == 13 {
-            let (set, splices) = payload.split_at(f as usize);
-            let (text, rest) = behind.split_at(answer.parse().unwrap());
-            behind = rest;
-            files = Some((set.to_vec(), applied(&base, splices), text.to_string()));
-        }
-        cases.push(Case {
-            operation,
-            arguments: [a, b, c, d, e, f],
-            payload: payload.to_vec(),
-            answer: answer.to_string(),
-            files,
-        });
-        (input, output) = (rest, behind);
-    }
-    assert!(output.is_empty());
-    cases
-}
-
-fn answered(operation: u32) -> impl Iterator<Item = &'static Case> {
+fn answered(operation: u32) -> impl Iterator<Item = &'static Case<'static>> {
     let cases = cases().iter();
     cases.filter(move |case| case.operation == operation)
 }
 
-/// The set, the board and the text of each case of the text.
-fn texts() -> impl Iterator<Item = &'static (Vec<u8>, Vec<u8>, String)> {
-    cases().iter().filter_map(|case| case.files.as_ref())
+/// The number that a case is refused by.
+fn refusal(case: &Case) -> Option<u32> {
+    let number = case.answer.strip_prefix("refused ")?;
+    number.split(' ').next()?.parse().ok()
+}
+
+/// The set, the board and the text of a case of the text.
+struct Files {
+    set: &'static [u8],
+    board: Vec<u8>,
+    text: &'static str,
+}
+
+/// The files of each case of the text.
+fn texts() -> &'static [Files] {
+    static TEXTS: OnceLock<Vec<Files>> = OnceLock::new();
+    let files = |case: &'static Case| Files {
+        set: case.set(),
+        board: case.board(),
+        text: case.text,
+    };
+    TEXTS.get_or_init(|| answered(13).map(files).collect())
 }
 
 /// The lines of a case of judging a dealing.
@@ -89,32 +71,37 @@ fn picked(figures: [u32; 5]) -> Vec<u32> {
     plots(answered(15).find(is_one).unwrap())
 }
 
+/// The numbers by which each operation refuses.
+const NUMBERS: [(u32, &[u32]); 12] = [
+    (1, &[3]),
+    (2, &[1, 6, 7]),
+    (3, &[1, 2, 3, 6, 7, 9]),
+    (4, &[1, 2, 3, 6, 7, 11]),
+    (5, &[1, 2, 3, 6, 8]),
+    (6, &[1, 6, 7, 10]),
+    (7, &[1, 2, 3, 6, 7, 8]),
+    (8, &[1, 2, 3, 4, 6, 7, 8, 9, 10, 17]),
+    (9, &[1, 2, 3, 6, 7, 8]),
+    (10, &[1, 2, 3, 4, 6, 7, 8, 10, 17]),
+    (11, &[1, 2, 3, 4, 5, 8, 17]),
+    (15, &[1, 3, 6, 15, 16]),
+];
+
+/// Tests that the cases have every number of the operation, and one that is not refused.
+fn has_every_number(operation: u32, cases: impl Iterator<Item = &'static Case<'static>>) {
+    let (_, numbers) = NUMBERS
+        .iter()
+        .find(|(number, _)| *number == operation)
+        .unwrap();
+    let refusals: BTreeSet<Option<u32>> = cases.map(refusal).collect();
+    let expected = numbers.iter().map(|&number| Some(number));
+    assert_eq!(refusals, expected.chain([None]).collect(), "{operation}");
+}
+
 #[test]
 fn every_number_of_each_operation() {
-    let numbers: [(u32, &[u32]); 12] = [
-        (1, &[3]),
-        (2, &[1, 6, 7]),
-        (3, &[1, 2, 3, 6, 7, 9]),
-        (4, &[1, 2, 3, 6, 7, 11]),
-        (5, &[1, 2, 3, 6, 8]),
-        (6, &[1, 6, 7, 10]),
-        (7, &[1, 2, 3, 6, 7, 8]),
-        (8, &[1, 2, 3, 4, 6, 7, 8, 9, 10]),
-        (9, &[1, 2, 3, 6, 7, 8]),
-        (10, &[1, 2, 3, 4, 6, 7, 8, 10]),
-        (11, &[1, 2, 3, 4, 5, 8]),
-        (15, &[1, 3, 6, 15, 16]),
-    ];
-    let cases = cases();
-    for (operation, numbers) in numbers {
-        let of_it = cases.iter().filter(|case| case.operation == operation);
-        let refusal = |case: &Case| -> Option<u32> {
-            let number = case.answer.strip_prefix("refused ")?;
-            number.split(' ').next()?.parse().ok()
-        };
-        let refusals: BTreeSet<Option<u32>> = of_it.map(refusal).collect();
-        let expected = numbers.iter().map(|&number| Some(number));
-        assert_eq!(refusals, expected.chain([None]).collect());
+    for (operation, _) in NUMBERS {
+        has_every_number(operation, answered(operation));
     }
 }
 
@@ -189,7 +176,7 @@ fn lines_in_whole_and_in_part_and_none() {
 #[test]
 fn a_thousand_boards_with_their_texts() {
     let mut boards = BTreeSet::new();
-    for (set, board, text) in texts() {
+    for Files { set, board, text } in texts() {
         assert_eq!(draw::text(set, board), *text);
         boards.insert((set, board));
     }
@@ -200,51 +187,61 @@ fn a_thousand_boards_with_their_texts() {
     }
 }
 
+/// The last lines of some texts, `draw` or the number of the refusal, and the verdicts in them.
+fn said<'a>(texts: impl Iterator<Item = &'a Files>) -> [BTreeSet<String>; 2] {
+    let (mut ends, mut verdicts) = (BTreeSet::new(), BTreeSet::new());
+    for line in texts.flat_map(|files| files.text.lines()) {
+        let words: Vec<&str> = line.split(' ').collect();
+        match words[..] {
+            ["draw", _] => ends.insert("draw".to_string()),
+            ["refused", refused] => ends.insert(refused.to_string()),
+            ["dealer", _, "refused", refused] => verdicts.insert(refused.to_string()),
+            ["dealer", _, verdict, ..] => verdicts.insert(verdict.to_string()),
+            _ => true,
+        };
+    }
+    [ends, verdicts]
+}
+
+/// Every end but that by 1, and every verdict.
+const ENDS: [&str; 10] = ["draw", "2", "3", "4", "17", "5", "12", "6", "14", "13"];
+const VERDICTS: [&str; 9] = [
+    "none",
+    "opened",
+    "recovered",
+    "stuck",
+    "12",
+    "6",
+    "7",
+    "9",
+    "10",
+];
+
+fn has_all(said: &BTreeSet<String>, expected: &[&str]) -> bool {
+    expected.iter().all(|word| said.contains(*word))
+}
+
 /// Every number of the last line, and every verdict, in each group.
 #[test]
 fn every_verdict_and_refusal_of_a_board() {
-    let (mut ends, mut verdicts) = (BTreeSet::new(), BTreeSet::new());
-    for (set, _, text) in texts() {
-        let number = set.get(7).copied().unwrap_or(0);
-        for line in text.lines() {
-            let words: Vec<&str> = line.split(' ').collect();
-            match words[..] {
-                ["draw", _] => ends.insert((number, "draw".to_string())),
-                ["refused", refused] => ends.insert((number, refused.to_string())),
-                ["dealer", _, "refused", refused] => verdicts.insert((number, refused.to_string())),
-                ["dealer", _, verdict, ..] => verdicts.insert((number, verdict.to_string())),
-                _ => true,
-            };
-        }
-    }
+    let of_group = |number| {
+        let texts = texts().iter();
+        texts.filter(move |files| files.set.get(7).copied().unwrap_or(0) == number)
+    };
     for number in 1..=3 {
-        for end in ["draw", "2", "3", "4", "5", "12", "6", "14", "13"] {
-            assert!(ends.contains(&(number, end.to_string())), "{number} {end}");
-        }
-        for verdict in [
-            "none",
-            "opened",
-            "recovered",
-            "stuck",
-            "12",
-            "6",
-            "7",
-            "9",
-            "10",
-        ] {
-            assert!(
-                verdicts.contains(&(number, verdict.to_string())),
-                "{number} {verdict}"
-            );
-        }
+        let [ends, verdicts] = said(of_group(number));
+        assert!(has_all(&ends, &ENDS) && has_all(&verdicts, &VERDICTS));
     }
-    assert!([0, 4].iter().all(|&n| ends.contains(&(n, "1".to_string()))));
+    for number in [0, 4] {
+        let [ends, _] = said(of_group(number));
+        assert!(ends.contains("1"));
+    }
 }
 
 #[test]
 fn sizes_of_sets_and_boards() {
     let (mut sets, mut boards, mut rounds) = (BTreeSet::new(), BTreeSet::new(), BTreeSet::new());
-    for (set, board, text) in texts() {
+    for Files { set, board, text } in texts() {
         sets.insert(set.len());
         boards.insert(board.len());
         if let Some(round) = text.strip_prefix("round ") {

@@ -27,7 +27,7 @@ impl InRound for Case {
     }
 
     fn add(&self, vectors: &mut Vectors) -> Option<u32> {
-        let Figures { number, n, t } = self.figures;
+        let [number, n, t] = vectors.round(self.figures);
         let lengths = [&self.commitments, &self.coefficients].map(|list| list.len() as u32);
         let arguments = [number, n, t, lengths[0], lengths[1]];
         let payload = bytes(&[&self.commitments[..], &self.coefficients].concat());
@@ -68,7 +68,7 @@ fn by_hand(vectors: &mut Vectors) {
 
 /// Carried commitments; the same with one multiplied by 4, so that no polynomial carries them unless n = t; and with
 /// one figure at the end of its range or outside.
-fn varied(vectors: &mut Vectors, figures: Figures, numbers: &mut Numbers) {
+pub fn varied(vectors: &mut Vectors, figures: Figures, numbers: &mut Numbers) {
     let round = proper(figures);
     let (p, q) = (round.group.p, round.group.q);
     let polynomial = list(numbers, round.t, q);
@@ -95,7 +95,7 @@ fn varied(vectors: &mut Vectors, figures: Figures, numbers: &mut Numbers) {
     }
 }
 
-fn refused(vectors: &mut Vectors, figures: Figures, numbers: &mut Numbers) {
+pub fn refused(vectors: &mut Vectors, figures: Figures, numbers: &mut Numbers) {
     let round = proper(figures);
     let (p, q) = (round.group.p, round.group.q);
     let carried = Case {

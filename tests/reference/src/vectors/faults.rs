@@ -6,8 +6,11 @@ use crate::round::Figures;
 /// A fault: the number that it is refused by, and the change that makes it.
 pub type Fault<'a, C> = (u32, &'a dyn Fn(&mut C));
 
+/// The same of the figures of a round.
+type FiguresFault = (u32, fn(&mut Figures));
+
 /// The faults of the figures of a round of at most four members.
-const OF_ROUND: [(u32, fn(&mut Figures)); 7] = [
+const OF_ROUND: [FiguresFault; 7] = [
     (1, |figures| figures.number = 0),
     (1, |figures| figures.number = 4),
     (1, |figures| figures.number = u32::MAX),
@@ -16,6 +19,12 @@ const OF_ROUND: [(u32, fn(&mut Figures)); 7] = [
     (2, |figures| figures.t = 0),
     (2, |figures| figures.t = 5),
 ];
+
+/// Whether a fault of the second number is put beside one of the first. A record of no form and of another round was once
+/// refused by one number; the cases of then stay as they are, and `rounds` has these two faults together.
+fn are_paired(number: u32, later: u32) -> bool {
+    number != later && (number, later) != (4, 17)
+}
 
 /// Adds a proper case, the case with each of the faults, and with each two of different numbers. The faults stand in
 /// the order of the operation's checks, so that of two the earlier counts, and none of its numbers is left out. `add`
@@ -34,7 +43,8 @@ pub fn singly_and_in_pairs<C: Clone>(
         let mut one = proper.clone();
         fault(&mut one);
         assert_eq!(add(&one), Some(*number));
-        for (_, later) in faults[k + 1..].iter().filter(|later| later.0 != *number) {
+        let later = faults[k + 1..].iter();
+        for (_, later) in later.filter(|later| are_paired(*number, later.0)) {
             let mut two = one.clone();
             later(&mut two);
             assert_eq!(add(&two), Some(*number));

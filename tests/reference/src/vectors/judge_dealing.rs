@@ -17,19 +17,19 @@ const JUDGE_DEALING: Operation = Operation {
 };
 
 /// The numbers in the order of the checks.
-const ORDER: [u32; 10] = [1, 2, 8, 3, 6, 4, 6, 7, 9, 10];
+const ORDER: [u32; 11] = [1, 2, 8, 3, 6, 4, 17, 6, 7, 9, 10];
 
 #[derive(Clone)]
-struct Case {
-    figures: Figures,
-    dealer: u32,
-    keys: Vec<u32>,
-    lines: Vec<u8>,
+pub struct Case {
+    pub figures: Figures,
+    pub dealer: u32,
+    pub keys: Vec<u32>,
+    pub lines: Vec<u8>,
 }
 
 impl Case {
     /// A dealing of the polynomial with any keys and nonces.
-    fn of(figures: Figures, dealer: u32, polynomial: &[u32], numbers: &mut Numbers) -> Case {
+    pub fn of(figures: Figures, dealer: u32, polynomial: &[u32], numbers: &mut Numbers) -> Case {
         let round = proper(figures);
         let mut case = Case {
             figures,
@@ -56,7 +56,7 @@ impl Case {
     }
 
     /// Changes a word of the line number k, from 0.
-    fn change(&mut self, k: usize, word: usize, change: impl Fn(u32) -> u32) {
+    pub fn change(&mut self, k: usize, word: usize, change: impl Fn(u32) -> u32) {
         let line = &mut self.lines[SIZE * k..][..SIZE];
         let mut record = record::read(line);
         record[word] = change(record[word]);
@@ -70,7 +70,7 @@ impl InRound for Case {
     }
 
     fn add(&self, vectors: &mut Vectors) -> Option<u32> {
-        let Figures { number, n, t } = self.figures;
+        let [number, n, t] = vectors.round(self.figures);
         let lengths = [self.keys.len() as u32, self.lines.len() as u32];
         let arguments = [number, n, t, self.dealer, lengths[0], lengths[1]];
         let payload = [&bytes(&self.keys)[..], &self.lines].concat();
@@ -85,19 +85,14 @@ pub fn add(vectors: &mut Vectors) {
         written(vectors, figures, &mut numbers);
     }
     for number in 1..=3 {
-        let three = Figures { number, n: 3, t: 2 };
+        let three = Figures::of(number, 3, 2);
         for k in 0..3 {
             damaged(vectors, three, k, &mut numbers);
         }
-        recombined(vectors, Figures { number, n: 4, t: 2 }, &mut numbers);
+        recombined(vectors, Figures::of(number, 4, 2), &mut numbers);
         uncarried(vectors, three, &mut numbers);
     }
-    let largest = Figures {
-        number: 3,
-        n: 31,
-        t: 16,
-    };
-    damaged(vectors, largest, 30, &mut numbers);
+    damaged(vectors, Figures::of(3, 31, 16), 30, &mut numbers);
     refused(vectors, &Case::of(fours()[1], 2, &[3, 5], &mut numbers));
 }
 
@@ -203,7 +198,7 @@ fn elsewhere(vectors: &mut Vectors, right: &Case) {
 }
 
 /// Exponents that are no polynomial's values, with a right challenge: refused by 9, or in group 1 sometimes accepted.
-fn uncarried(vectors: &mut Vectors, figures: Figures, numbers: &mut Numbers) {
+pub fn uncarried(vectors: &mut Vectors, figures: Figures, numbers: &mut Numbers) {
     let round = proper(figures);
     let mut case = Case::of(figures, 2, &[0, 0], numbers);
     for _ in 0..20 {
@@ -233,7 +228,7 @@ fn refused(vectors: &mut Vectors, right: &Case) {
         (4, &|c| c.change(0, 0, |_| 4)),
         (4, &|c| c.change(1, 1, |_| 1)),
         (4, &|c| c.change(2, 2, |_| 2)),
-        (4, &|c| c.change(0, 7, |_| 1)),
+        (17, &|c| c.change(0, 7, |round| round ^ 1)),
         (6, &|c| c.change(0, 3, |_| p - 1)),
         (6, &|c| c.change(2, 3, |_| 0)),
         (6, &|c| c.change(1, 4, |_| p)),

@@ -16,21 +16,21 @@ const JUDGE_SHARE: Operation = Operation {
 };
 
 /// The numbers in the order of the checks.
-const ORDER: [u32; 9] = [1, 2, 8, 3, 6, 4, 6, 7, 10];
+const ORDER: [u32; 10] = [1, 2, 8, 3, 6, 4, 17, 6, 7, 10];
 
 #[derive(Clone)]
-struct Case {
-    figures: Figures,
-    dealer: u32,
-    member: u32,
-    key: u32,
-    encrypted: u32,
-    record: Vec<u8>,
+pub struct Case {
+    pub figures: Figures,
+    pub dealer: u32,
+    pub member: u32,
+    pub key: u32,
+    pub encrypted: u32,
+    pub record: Vec<u8>,
 }
 
 impl Case {
     /// A share as it is written, from any secret key, Y and nonce.
-    fn any(figures: Figures, numbers: &mut Numbers) -> Case {
+    pub fn any(figures: Figures, numbers: &mut Numbers) -> Case {
         let group = proper(figures).group;
         let encrypted = group.power(G, numbers.below(group.q));
         Case::of(figures, encrypted, numbers)
@@ -62,7 +62,7 @@ impl Case {
         case
     }
 
-    fn change(&mut self, word: usize, change: impl Fn(u32) -> u32) {
+    pub fn change(&mut self, word: usize, change: impl Fn(u32) -> u32) {
         let mut record = record::read(&self.record);
         record[word] = change(record[word]);
         record::write(record, &mut self.record);
@@ -75,7 +75,7 @@ impl InRound for Case {
     }
 
     fn add(&self, vectors: &mut Vectors) -> Option<u32> {
-        let Figures { number, n, t } = self.figures;
+        let [number, n, t] = vectors.round(self.figures);
         let length = self.record.len() as u32;
         let arguments = [number, n, t, self.dealer, self.member, length];
         let payload = [&bytes(&[self.key, self.encrypted])[..], &self.record].concat();
@@ -194,14 +194,19 @@ fn in_other_rounds(vectors: &mut Vectors, right: &Case) {
         (number, 4, 3),
     ] {
         Case {
-            figures: Figures { number, n, t },
+            figures: Figures {
+                number,
+                n,
+                t,
+                ..right.figures
+            },
             ..right.clone()
         }
         .add(vectors);
     }
 }
 
-fn refused(vectors: &mut Vectors, any: &Case) {
+pub fn refused(vectors: &mut Vectors, any: &Case) {
     let group = proper(any.figures).group;
     let (p, q) = (group.p, group.q);
     let exponent = |e| other_exponent(&group, e);
@@ -221,7 +226,7 @@ fn refused(vectors: &mut Vectors, any: &Case) {
         (4, &|c| c.change(1, |d| d % 4 + 1)),
         (4, &|c| c.change(2, |i| i % 4 + 1)),
         (4, &|c| c.change(6, |_| 1)),
-        (4, &|c| c.change(7, |_| 1)),
+        (17, &|c| c.change(7, |round| round ^ 1)),
         (6, &|c| c.change(3, |_| 0)),
         (6, &|c| c.change(3, |_| p - 1)),
         (6, &|c| c.change(3, |_| p)),

@@ -27,7 +27,7 @@ impl InRound for Case {
     }
 
     fn add(&self, vectors: &mut Vectors) -> Option<u32> {
-        let Figures { number, n, t } = self.figures;
+        let [number, n, t] = vectors.round(self.figures);
         let arguments = [number, n, t, self.s, self.commitments.len() as u32];
         let answer = opening(self.figures, &self.commitments, self.s);
         vectors.add(
@@ -63,7 +63,7 @@ fn by_hand(vectors: &mut Vectors) {
 
 /// The right opening and others; then the right one with each commitment multiplied by 4, which leaves it right for
 /// those of the members above t, and with each commitment negative.
-fn varied(vectors: &mut Vectors, figures: Figures, numbers: &mut Numbers) {
+pub fn varied(vectors: &mut Vectors, figures: Figures, numbers: &mut Numbers) {
     let round = proper(figures);
     let (p, q) = (round.group.p, round.group.q);
     let polynomial = list(numbers, round.t, q);
@@ -88,7 +88,7 @@ fn varied(vectors: &mut Vectors, figures: Figures, numbers: &mut Numbers) {
     }
 }
 
-fn refused(vectors: &mut Vectors, figures: Figures, numbers: &mut Numbers) {
+pub fn refused(vectors: &mut Vectors, figures: Figures, numbers: &mut Numbers) {
     let round = proper(figures);
     let (p, q) = (round.group.p, round.group.q);
     let polynomial = list(numbers, 2, q);

@@ -37,7 +37,7 @@ impl InRound for Case {
     }
 
     fn add(&self, vectors: &mut Vectors) -> Option<u32> {
-        let Figures { number, n, t } = self.figures;
+        let [number, n, t] = vectors.round(self.figures);
         let lengths = [&self.members, &self.shares].map(|list| list.len() as u32);
         let arguments = [number, n, t, lengths[0], lengths[1]];
         let payload = bytes(&[&self.members[..], &self.shares].concat());
@@ -96,7 +96,7 @@ fn shuffled(round: &Round, numbers: &mut Numbers) -> Vec<u32> {
 
 /// All members upwards, downwards and shuffled, the t lowest, the t highest, t of them shuffled, and one fewer; then
 /// a false share, a share that is no element, and a member named twice, at each place.
-fn varied(vectors: &mut Vectors, figures: Figures, numbers: &mut Numbers) {
+pub fn varied(vectors: &mut Vectors, figures: Figures, numbers: &mut Numbers) {
     let round = proper(figures);
     let all = powers_at(&round, H, &list(numbers, round.t, round.group.q));
     let upwards: Vec<u32> = (1..=round.n).collect();
@@ -122,7 +122,7 @@ fn varied(vectors: &mut Vectors, figures: Figures, numbers: &mut Numbers) {
     }
 }
 
-fn refused(vectors: &mut Vectors, figures: Figures, numbers: &mut Numbers) {
+pub fn refused(vectors: &mut Vectors, figures: Figures, numbers: &mut Numbers) {
     let round = proper(figures);
     let p = round.group.p;
     let all = powers_at(&round, H, &list(numbers, 2, round.group.q));

@@ -27,7 +27,7 @@ pub fn rounds() -> Vec<Figures> {
     for number in 1..=3 {
         let largest = if number == 1 { &[][..] } else { &LARGEST };
         for &(n, t) in EVERYWHERE.iter().chain(largest) {
-            rounds.push(Figures { number, n, t });
+            rounds.push(Figures::of(number, n, t));
         }
     }
     rounds

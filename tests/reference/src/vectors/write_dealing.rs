@@ -5,6 +5,7 @@
 use super::faults::{in_round, Fault, InRound};
 use super::sample::{keys, list, proper, rounds};
 use super::{buffered, Operation, Vectors};
+use crate::answer::Answer;
 use crate::dealing::write_dealing;
 use crate::modular::difference;
 use crate::numbers::Numbers;
@@ -16,10 +17,10 @@ const WRITE_DEALING: Operation = Operation {
 };
 
 #[derive(Clone)]
-struct Case {
-    figures: Figures,
-    dealer: u32,
-    keys: Vec<u32>,
+pub struct Case {
+    pub figures: Figures,
+    pub dealer: u32,
+    pub keys: Vec<u32>,
     coefficients: Vec<u32>,
     nonces: Vec<u32>,
     size: usize,
@@ -27,7 +28,7 @@ struct Case {
 
 impl Case {
     /// Proper figures.
-    fn of(figures: Figures, dealer: u32, numbers: &mut Numbers) -> Case {
+    pub fn of(figures: Figures, dealer: u32, numbers: &mut Numbers) -> Case {
         let round = proper(figures);
         Case {
             figures,
@@ -38,6 +39,28 @@ impl Case {
             size: 32 * round.n as usize,
         }
     }
+
+    fn payload(&self) -> Vec<u8> {
+        let lists = [&self.keys, &self.coefficients, &self.nonces];
+        let mut words = vec![self.size as u32];
+        words.extend(lists.map(|list| list.len() as u32));
+        words.extend(lists.into_iter().flatten());
+        buffered(&words, self.size)
+    }
+
+    /// What the writer answers, and what the buffer then has in it.
+    pub fn written(&self) -> (Answer<()>, Vec<u8>) {
+        let mut buffer = self.payload()[..self.size].to_vec();
+        let answer = write_dealing(
+            self.figures,
+            self.dealer,
+            &self.keys,
+            &self.coefficients,
+            &self.nonces,
+            &mut buffer,
+        );
+        (answer, buffer)
+    }
 }
 
 impl InRound for Case {
@@ -46,24 +69,10 @@ impl InRound for Case {
     }
 
     fn add(&self, vectors: &mut Vectors) -> Option<u32> {
-        let Figures { number, n, t } = self.figures;
-        let lists = [&self.keys, &self.coefficients, &self.nonces];
-        let mut words = vec![self.size as u32];
-        words.extend(lists.map(|list| list.len() as u32));
-        words.extend(lists.into_iter().flatten());
-        let payload = buffered(&words, self.size);
-        let mut buffer = payload[..self.size].to_vec();
-        let [keys, coefficients, nonces] = lists;
-        let answer = write_dealing(
-            self.figures,
-            self.dealer,
-            keys,
-            coefficients,
-            nonces,
-            &mut buffer,
-        );
+        let [number, n, t] = vectors.round(self.figures);
         let arguments = [number, n, t, self.dealer];
-        vectors.add_written(&WRITE_DEALING, &arguments, &payload, answer, &buffer)
+        let (answer, buffer) = self.written();
+        vectors.add_written(&WRITE_DEALING, &arguments, &self.payload(), answer, &buffer)
     }
 }
 
@@ -72,12 +81,7 @@ pub fn add(vectors: &mut Vectors) {
     for figures in rounds() {
         varied(vectors, figures, &mut numbers);
     }
-    let two = Figures {
-        number: 3,
-        n: 2,
-        t: 2,
-    };
-    refused(vectors, two, &mut numbers);
+    refused(vectors, Figures::of(3, 2, 2), &mut numbers);
 }
 
 /// Any polynomial and nonces; in the smaller rounds also a polynomial with the value 0 at the last member, whose v and
@@ -104,7 +108,7 @@ fn varied(vectors: &mut Vectors, figures: Figures, numbers: &mut Numbers) {
     }
 }
 
-fn refused(vectors: &mut Vectors, figures: Figures, numbers: &mut Numbers) {
+pub fn refused(vectors: &mut Vectors, figures: Figures, numbers: &mut Numbers) {
     let group = proper(figures).group;
     let (p, q) = (group.p, group.q);
     let faults: [Fault<Case>; 21] = [

@@ -5,6 +5,7 @@
 use super::faults::{in_round, Fault, InRound};
 use super::sample::{over_rounds, proper};
 use super::{buffered, Operation, Vectors};
+use crate::answer::Answer;
 use crate::group::G;
 use crate::numbers::Numbers;
 use crate::round::{Figures, FOUR};
@@ -16,19 +17,19 @@ const WRITE_SHARE: Operation = Operation {
 };
 
 #[derive(Clone)]
-struct Case {
-    figures: Figures,
-    dealer: u32,
-    member: u32,
-    encrypted: u32,
-    secret_key: u32,
+pub struct Case {
+    pub figures: Figures,
+    pub dealer: u32,
+    pub member: u32,
+    pub encrypted: u32,
+    pub secret_key: u32,
     nonce: u32,
     size: usize,
 }
 
 impl Case {
     /// Any proper figures.
-    fn any(figures: Figures, numbers: &mut Numbers) -> Case {
+    pub fn any(figures: Figures, numbers: &mut Numbers) -> Case {
         let group = proper(figures).group;
         Case {
             figures,
@@ -40,18 +41,14 @@ impl Case {
             size: 32,
         }
     }
-}
 
-impl InRound for Case {
-    fn figures(&mut self) -> &mut Figures {
-        &mut self.figures
+    fn payload(&self) -> Vec<u8> {
+        buffered(&[self.encrypted, self.secret_key, self.nonce], self.size)
     }
 
-    fn add(&self, vectors: &mut Vectors) -> Option<u32> {
-        let Figures { number, n, t } = self.figures;
-        let arguments = [number, n, t, self.dealer, self.member, self.size as u32];
-        let payload = buffered(&[self.encrypted, self.secret_key, self.nonce], self.size);
-        let mut buffer = payload[..self.size].to_vec();
+    /// What the writer answers, and what the buffer then has in it.
+    pub fn written(&self) -> (Answer<()>, Vec<u8>) {
+        let mut buffer = self.payload()[..self.size].to_vec();
         let answer = write_share(
             self.figures,
             self.dealer,
@@ -61,7 +58,20 @@ impl InRound for Case {
             self.nonce,
             &mut buffer,
         );
-        vectors.add_written(&WRITE_SHARE, &arguments, &payload, answer, &buffer)
+        (answer, buffer)
+    }
+}
+
+impl InRound for Case {
+    fn figures(&mut self) -> &mut Figures {
+        &mut self.figures
+    }
+
+    fn add(&self, vectors: &mut Vectors) -> Option<u32> {
+        let [number, n, t] = vectors.round(self.figures);
+        let arguments = [number, n, t, self.dealer, self.member, self.size as u32];
+        let (answer, buffer) = self.written();
+        vectors.add_written(&WRITE_SHARE, &arguments, &self.payload(), answer, &buffer)
     }
 }
 
@@ -107,7 +117,7 @@ fn varied(vectors: &mut Vectors, figures: Figures, numbers: &mut Numbers) {
     }
 }
 
-fn refused(vectors: &mut Vectors, figures: Figures, numbers: &mut Numbers) {
+pub fn refused(vectors: &mut Vectors, figures: Figures, numbers: &mut Numbers) {
     let group = proper(figures).group;
     let (p, q) = (group.p, group.q);
     let faults: [Fault<Case>; 15] = [

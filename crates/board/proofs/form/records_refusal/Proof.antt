@@ -7,18 +7,18 @@ use native.Mathlib.Omega.{arith}
 use borrow.Author.Needs.{needs}
 use borrow.Author.Tests.{not-true, not-false}
 use Rattle.words.specs.Checks.{refusal}
-use Rattle.records.specs.Layout.{isRoundless}
+use Rattle.records.specs.Layout.{isOfRound}
 use Rattle.board.specs.Search.{recordsIn}
 use Rattle.board.specs.Board.{isShaped, inOrder, recordChecks}
-use Rattle.board.proofs.Steps.{test-found, order-found, order-first, unshaped, unplain, unordered, record-passed, records-passed}
+use Rattle.board.proofs.Steps.{test-found, order-found, order-first, unshaped, foreign, unordered, record-passed, records-passed}
 use Rattle.board.proofs.form.records_refusal.Statement.{statement}
 use Rattle.board.proofs.form.records_refusal.Tie as tie
 
 abbrev Inv-loop : tie.InvT-loop
-Inv-loop n b all i₀ i = (all ≡ recordsIn b) × (refusal (recordChecks n b 0 (recordsIn b)) ≡ refusal (recordChecks n b i (all - i)))
+Inv-loop s b all i₀ i = (all ≡ recordsIn b) × (refusal (recordChecks s b 0 (recordsIn b)) ≡ refusal (recordChecks s b i (all - i)))
 
 abbrev μ-loop : tie.MeasureT-loop
-μ-loop n b all i₀ i = all - i
+μ-loop s b all i₀ i = all - i
 
 records-requires : tie.Need-records-requires Inv-loop μ-loop
 records-requires c κs = search needs
@@ -27,7 +27,7 @@ loop-holds : tie.Need-loop-holds Inv-loop μ-loop
 loop-holds c =
     let a = c .before .before .args in
     let e : recordsIn (a .b .now) ≡ c .records .result - 0 = omega (arith, c .records .ensures) in
-    (c .records .ensures, ap (λ (m : ℕ). refusal (recordChecks (a .n) (a .b .now) 0 m)) e)
+    (c .records .ensures, ap (λ (m : ℕ). refusal (recordChecks (a .s) (a .b .now) 0 m)) e)
 
 record-at-requires : tie.Need-record-at-requires Inv-loop μ-loop
 record-at-requires c κs = search needs
@@ -40,11 +40,11 @@ returns c =
     let w = c .before .before .before in
     let l = w .before .loop in
     let a = w .before .before .before .before .args in
-    let s = test-found (a .b .now) (l .i) (c .before .before .record-at .ensures) (isShaped (a .n)) (c .before .is-shaped .ensures) (not-true _ (c .if1 .taken)) in
-    sym (l .inv .1 ∙ unshaped (a .n) (a .b .now) (w .before .before .records .result) (l .i) (w .loop-test .taken) s)
+    let s = test-found (a .b .now) (l .i) (c .before .before .record-at .ensures) (isShaped (a .s .n)) (c .before .is-shaped .ensures) (not-true _ (c .if1 .taken)) in
+    sym (l .inv .1 ∙ unshaped (a .s) (a .b .now) (w .before .before .records .result) (l .i) (w .loop-test .taken) s)
 
-is-roundless-requires : tie.Need-is-roundless-requires Inv-loop μ-loop
-is-roundless-requires c κs = search needs
+is-of-round-requires : tie.Need-is-of-round-requires Inv-loop μ-loop
+is-of-round-requires c κs = search needs
 
 returns-2 : tie.Need-returns-2 Inv-loop μ-loop
 returns-2 c =
@@ -53,9 +53,9 @@ returns-2 c =
     let l = w .before .loop in
     let a = w .before .before .before .before .args in
     let r = v .before .before .record-at .ensures in
-    let s = test-found (a .b .now) (l .i) r (isShaped (a .n)) (v .before .is-shaped .ensures) (not-false _ (v .if1 .left)) in
-    let p = test-found (a .b .now) (l .i) r isRoundless (c .before .is-roundless .ensures) (not-true _ (c .if2 .taken)) in
-    sym (l .inv .1 ∙ unplain (a .n) (a .b .now) (w .before .before .records .result) (l .i) (w .loop-test .taken) s p)
+    let s = test-found (a .b .now) (l .i) r (isShaped (a .s .n)) (v .before .is-shaped .ensures) (not-false _ (v .if1 .left)) in
+    let p = test-found (a .b .now) (l .i) r (isOfRound (a .s .round)) (c .before .is-of-round .ensures) (not-true _ (c .if2 .taken)) in
+    sym (l .inv .1 ∙ foreign (a .s) (a .b .now) (w .before .before .records .result) (l .i) (w .loop-test .taken) s p)
 
 sub-record-at : tie.Need-sub-record-at Inv-loop μ-loop
 sub-record-at c = search needs
@@ -74,12 +74,12 @@ returns-3 c =
     let l = w .before .loop in
     let a = w .before .before .before .before .args in
     let r = v .before .before .record-at .ensures in
-    let s = test-found (a .b .now) (l .i) r (isShaped (a .n)) (v .before .is-shaped .ensures) (not-false _ (v .if1 .left)) in
-    let p = test-found (a .b .now) (l .i) r isRoundless (u .before .is-roundless .ensures) (not-false _ (u .if2 .left)) in
+    let s = test-found (a .b .now) (l .i) r (isShaped (a .s .n)) (v .before .is-shaped .ensures) (not-false _ (v .if1 .left)) in
+    let p = test-found (a .b .now) (l .i) r (isOfRound (a .s .round)) (u .before .is-of-round .ensures) (not-false _ (u .if2 .left)) in
     let o =
     order-found (a .b .now) (l .i) r (c .before .before .before .if3 .taken) (c .before .before .record-at2 .ensures) (c .before .is-below .ensures)
     (not-true _ (c .if4 .taken)) in
-    sym (l .inv .1 ∙ unordered (a .n) (a .b .now) (w .before .before .records .result) (l .i) (w .loop-test .taken) s p o)
+    sym (l .inv .1 ∙ unordered (a .s) (a .b .now) (w .before .before .records .result) (l .i) (w .loop-test .taken) s p o)
 
 add-i : tie.Need-add-i Inv-loop μ-loop
 add-i c = search needs
@@ -95,20 +95,20 @@ loop-again c =
     let l = w .before .loop in
     let a = w .before .before .before .before .args in
     let r = v .before .before .record-at .ensures in
-    let s = test-found (a .b .now) (l .i) r (isShaped (a .n)) (v .before .is-shaped .ensures) (not-false _ (v .if1 .left)) in
-    let p = test-found (a .b .now) (l .i) r isRoundless (u .before .is-roundless .ensures) (not-false _ (u .if2 .left)) in
+    let s = test-found (a .b .now) (l .i) r (isShaped (a .s .n)) (v .before .is-shaped .ensures) (not-false _ (v .if1 .left)) in
+    let p = test-found (a .b .now) (l .i) r (isOfRound (a .s .round)) (u .before .is-of-round .ensures) (not-false _ (u .if2 .left)) in
     let o : inOrder (a .b .now) (l .i) ≡ true =
     ⊎-elim
     (λ x. order-found (a .b .now) (l .i) r (x .0 .taken) (x .1 .ensures) (x .2 .ensures) (not-false _ (x .3 .left)))
     (λ x. order-first (a .b .now) (l .i) (x .left))
     (c .if3 .came) in
-    (l .inv .0, l .inv .1 ∙ record-passed (a .n) (a .b .now) (w .before .before .records .result) (l .i) (w .loop-test .taken) s p o)
+    (l .inv .0, l .inv .1 ∙ record-passed (a .s) (a .b .now) (w .before .before .records .result) (l .i) (w .loop-test .taken) s p o)
 
 returns-4 : tie.Need-returns-4 Inv-loop μ-loop
 returns-4 c =
     let l = c .before .loop in
     let a = c .before .before .before .before .args in
-    sym (l .inv .1 ∙ records-passed (a .n) (a .b .now) (c .before .before .records .result) (l .i) (c .loop-test .left))
+    sym (l .inv .1 ∙ records-passed (a .s) (a .b .now) (c .before .before .records .result) (l .i) (c .loop-test .left))
 
 pub records-refusal-spec : {M : Type 1} → statement M
 records-refusal-spec =
@@ -121,7 +121,7 @@ records-refusal-spec =
     record-at-requires
     is-shaped-requires
     returns
-    is-roundless-requires
+    is-of-round-requires
     returns-2
     sub-record-at
     record-at-requires-2

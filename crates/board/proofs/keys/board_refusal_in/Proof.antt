@@ -16,25 +16,24 @@ unfolding boardChecks
 returns c =
     let f = c .before in
     let a = f .before .before .args in
-    stage-number (formChecks (a .s .n) (a .b .now)) (f .form-refusal .ensures) (boardKeyChecks (a .s) (a .b .now)) (c .if1 .taken)
+    stage-number (formChecks (a .s) (a .b .now)) (f .form-refusal .ensures) (boardKeyChecks (a .s) (a .b .now)) (c .if1 .taken)
 
 board-keys-refusal-requires : tie.Need-board-keys-refusal-requires
 board-keys-refusal-requires c κs =
     let f = c .before in
     let w = f .before .before in
-    let n = w .args .s .n in
+    let s = w .args .s in
     let b = w .args .b .now in
-    (w .pre, sorted n b (form-met n b (sym (f .form-refusal .ensures) ∙ c .if1 .left)))
+    (w .pre, sorted s b (form-met s b (sym (f .form-refusal .ensures) ∙ c .if1 .left)))
 
 returns-2 : tie.Need-returns-2
 unfolding boardChecks
 returns-2 c =
     let f = c .before .before in
     let a = f .before .before .args in
-    let n = a .s .n in
     let b = a .b .now in
     c .board-keys-refusal .ensures
-    ∙ rest-number (formChecks n b) (boardKeyChecks (a .s) b) (form-met n b (sym (f .form-refusal .ensures) ∙ c .before .if1 .left))
+    ∙ rest-number (formChecks (a .s) b) (boardKeyChecks (a .s) b) (form-met (a .s) b (sym (f .form-refusal .ensures) ∙ c .before .if1 .left))
 
 pub board-refusal-in-spec : {M : Type 1} → statement M
 board-refusal-in-spec =

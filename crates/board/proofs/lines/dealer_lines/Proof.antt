@@ -49,7 +49,7 @@ lines-of-requires c κs =
     let l = c .before .before in
     let a = l .before .before .args in
     let m = passed (a .rd) (a .d) (a .b .now) (l .lines-check .ensures) (c .enum-told2 .given .1) in
-    sorted (a .rd .n) (a .b .now) (met-both (roundChecks (a .rd)) (linesChecks (settingIn (a .rd)) (a .d) (a .b .now)) m .1 .1)
+    sorted (settingIn (a .rd)) (a .b .now) (met-both (roundChecks (a .rd)) (linesChecks (settingIn (a .rd)) (a .d) (a .b .now)) m .1 .1)
 
 returns : tie.Need-returns
 unfolding linesOutcome linesPart linesAt judged judgedElse

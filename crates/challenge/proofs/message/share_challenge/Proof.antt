@@ -52,8 +52,8 @@ add-challenge c = search needs
 
 challenge-requires : tie.Need-challenge-requires
 challenge-requires c κs =
-    let s = c .before .before .before .before .before .before .before .before .before .before .before in
-    (order-positive (s .pre .0), omega arith, omega arith)
+    let h = c .before .before .before .before .before .before .before .before .before in
+    (order-positive (h .before .before .pre .0), omega (arith, h .head .ensures .0), omega (arith, h .head .ensures .0))
 
 returns : tie.Need-returns
 unfolding challengeOf shareMessage

@@ -73,9 +73,22 @@ returns-5 : tie.Need-returns-5
 unfolding lineChecks
 returns-5 c = sym (pick-false _ _ _ (failed (c .before .all-lines .ensures) (c .if5 .taken))) ∙ lines-decide (c .before .before)
 
+all-of-round-requires : tie.Need-all-of-round-requires
+all-of-round-requires c κs = search needs
+
 returns-6 : tie.Need-returns-6
 unfolding lineChecks
-returns-6 c = sym (pick-true _ _ _ (passed (c .before .all-lines .ensures) (c .if5 .left))) ∙ lines-decide (c .before .before)
+returns-6 c =
+    let l = c .before .before in
+    sym (pick-true _ _ _ (passed (l .before .all-lines .ensures) (l .if5 .left)) ∙ pick-false _ _ _ (failed (c .before .all-of-round .ensures) (c .if6 .taken)))
+    ∙ lines-decide (l .before .before)
+
+returns-7 : tie.Need-returns-7
+unfolding lineChecks
+returns-7 c =
+    let l = c .before .before in
+    sym (pick-true _ _ _ (passed (l .before .all-lines .ensures) (l .if5 .left)) ∙ pick-true _ _ _ (passed (c .before .all-of-round .ensures) (c .if6 .left)))
+    ∙ lines-decide (l .before .before)
 
 pub form-refusal-spec : {M : Type 1} → statement M
 form-refusal-spec =
@@ -91,4 +104,6 @@ form-refusal-spec =
     returns-4
     all-lines-requires
     returns-5
-    returns-6)
+    all-of-round-requires
+    returns-6
+    returns-7)

@@ -17,12 +17,12 @@ use Rattle.dealing.proofs.writer.put_lines.Statement.{statement}
 use Rattle.dealing.proofs.writer.put_lines.Tie as tie
 
 abbrev Inv-loop : tie.InvT-loop
-Inv-loop gr d vs Ys xs ws c out₀ i₀ out i =
-    let is = members (length ws) in let line = lineOf gr d vs Ys xs ws (c .0) in
+Inv-loop s d vs Ys xs ws c out₀ i₀ out i =
+    let is = members (length ws) in let line = lineOf s d vs Ys xs ws (c .0) in
     (i ≤ length ws) × (length out ≡ length out₀) × (recordsBytes line is ≡ take (32 * i) out ++ recordsBytes line (drop i is))
 
 abbrev μ-loop : tie.MeasureT-loop
-μ-loop gr d vs encrypted xs ws c out₀ i₀ out i = length ws - i
+μ-loop s d vs encrypted xs ws c out₀ i₀ out i = length ws - i
 
 loop-holds : tie.Need-loop-holds Inv-loop μ-loop
 loop-holds c = (omega arith, refl, refl)
@@ -43,7 +43,7 @@ response-requires : tie.Need-response-requires Inv-loop μ-loop
 response-requires c κs =
     let t = c .before .before in
     let s = t .before .before .before .before in
-    All-at (λ (x : ℕ). x < s .args .gr .q) (s .args .ws .now) (t .before .loop .i) 0 (t .loop-test .taken) (s .pre .1)
+    All-at (λ (x : ℕ). x < s .args .s .group .q) (s .args .ws .now) (t .before .loop .i) 0 (t .loop-test .taken) (s .pre .1)
 
 cast-line-record : tie.Need-cast-line-record Inv-loop μ-loop
 cast-line-record c = search needs
@@ -103,15 +103,15 @@ loop-again c =
     let i : ℕ = l .i in
     let n : ℕ = length (a .ws .now) in
     let h : i < n = t .loop-test .taken in
-    let answer = r .response .ensures ∙ (λ j. response (a .gr) (entry-at (a .ws .now) i j) (a .c .0) (entry-at (a .xs .now) i j)) in
+    let answer = r .response .ensures ∙ (λ j. response (a .s .group) (entry-at (a .ws .now) i j) (a .c .0) (entry-at (a .xs .now) i j)) in
     let line = w .write-record .ensures ∙ ap recordBytes (g .line-record .ensures)
-    ∙ (λ j. recordBytes (lineLayout (a .d) (i + 1) (entry-at (a .vs .now) i j) (entry-at (a .encrypted .now) i j) (answer j) (a .c .0))) in
+    ∙ (λ j. recordBytes (lineLayout (a .d) (i + 1) (entry-at (a .vs .now) i j) (entry-at (a .encrypted .now) i j) (answer j) (a .c .0) (a .s .round))) in
     let room : 32 * i + 32 ≤ length (l .out) = omega (arith, l .inv .1, s .pre .2) in
     let size : 32 * i + 32 - 32 * i ≡ 32 = omega arith in (
       omega arith,
       search needs,
       l .inv .2
-          ∙ lines-next (lineOf (a .gr) (a .d) (a .vs .now) (a .encrypted .now) (a .xs .now) (a .ws .now) (a .c .0)) (members n) i (l .out)
+          ∙ lines-next (lineOf (a .s) (a .d) (a .vs .now) (a .encrypted .now) (a .xs .now) (a .ws .now) (a .c .0)) (members n) i (l .out)
           (index-within n i h) room size (number-at n i h) line,
     )
 
@@ -127,7 +127,7 @@ returns c =
     let n : ℕ = length (a .ws .now) in
     let end : l .i ≡ length (members n) = omega (arith, up-length 1 n) in
     let size : length (l .out) ≡ 32 * length (members n) = omega (arith, up-length 1 n, l .inv .1, s .pre .2) in
-    sym (l .inv .2 ∙ lines-end (lineOf (a .gr) (a .d) (a .vs .now) (a .encrypted .now) (a .xs .now) (a .ws .now) (a .c .0)) (members n) (l .i) (l .out) end size)
+    sym (l .inv .2 ∙ lines-end (lineOf (a .s) (a .d) (a .vs .now) (a .encrypted .now) (a .xs .now) (a .ws .now) (a .c .0)) (members n) (l .i) (l .out) end size)
 
 pub put-lines-spec : {M : Type 1} → statement M
 put-lines-spec =

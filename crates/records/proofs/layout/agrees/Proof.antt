@@ -53,15 +53,28 @@ returns-6 c =
 returns-7 : tie.Need-returns-7
 unfolding agrees
 returns-7 c =
-    let b6 = c .before .before in
+    let b6 = c .before .before .before in
+    let b5 = b6 .before .before .before in
+    let b4 = b5 .before .before .before in
+    let b3 = b4 .before .before .before in
+    let b2 = b3 .before .before .before in
+    let b1 = b2 .before .before .before in
+    simp
+    (eq-eqb _ _ (b1 .if1 .left), eq-eqb _ _ (b2 .if2 .left), eq-eqb _ _ (b3 .if3 .left), eq-eqb _ _ (b4 .if4 .left), eq-eqb _ _ (b5 .if5 .left), eq-eqb _ _ (b6 .if6 .left), ne-eqb _ _ (c .if7 .taken))
+
+returns-8 : tie.Need-returns-8
+unfolding agrees
+returns-8 c =
+    let b7 = c .before .before in
+    let b6 = b7 .before .before .before in
     let b5 = b6 .before .before .before in
     let b4 = b5 .before .before .before in
     let b3 = b4 .before .before .before in
     let b2 = b3 .before .before .before in
     let b1 = b2 .before .before .before in
     and-held _ (eq-eqb _ _ (b1 .if1 .left)) (and-held _ (eq-eqb _ _ (b2 .if2 .left)) (and-held _ (eq-eqb _ _ (b3 .if3 .left))
-    (and-held _ (eq-eqb _ _ (b4 .if4 .left)) (and-held _ (eq-eqb _ _ (b5 .if5 .left)) (and-held _ (eq-eqb _ _ (b6 .if6 .left)) refl)))))
+    (and-held _ (eq-eqb _ _ (b4 .if4 .left)) (and-held _ (eq-eqb _ _ (b5 .if5 .left)) (and-held _ (eq-eqb _ _ (b6 .if6 .left)) (and-held _ (eq-eqb _ _ (b7 .if7 .left)) refl))))))
 
 pub agrees-spec : {M : Type 1} → statement M
 agrees-spec =
-    tie.close (tie.spec returns returns-2 returns-3 returns-4 returns-5 returns-6 returns-7)
+    tie.close (tie.spec returns returns-2 returns-3 returns-4 returns-5 returns-6 returns-7 returns-8)

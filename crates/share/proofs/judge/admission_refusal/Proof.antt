@@ -54,8 +54,8 @@ returns-5 c =
     simp
     (← r .read-record .ensures, passed (m .are-members .ensures) (k .before .before .if1 .left), eq-eqb _ 32 (k .before .if2 .left), passed (k .is-key .ensures) (e .before .if3 .left), passed (e .is-element .ensures) (r .before .if4 .left), failed (c .before .is-share-of .ensures) (c .if5 .taken))
 
-is-roundless-requires : tie.Need-is-roundless-requires
-is-roundless-requires c κs = search needs
+is-of-round-requires : tie.Need-is-of-round-requires
+is-of-round-requires c κs = search needs
 
 returns-6 : tie.Need-returns-6
 unfolding shareAdmissionChecks membersChecks shareInputChecks shareFormChecks
@@ -66,7 +66,7 @@ returns-6 c =
     let k = e .before .before in
     let m = k .before .before .before in
     simp
-    (← r .read-record .ensures, passed (m .are-members .ensures) (k .before .before .if1 .left), eq-eqb _ 32 (k .before .if2 .left), passed (k .is-key .ensures) (e .before .if3 .left), passed (e .is-element .ensures) (r .before .if4 .left), passed (f .is-share-of .ensures) (c .before .before .if5 .left), failed (c .before .is-roundless .ensures) (c .if6 .taken))
+    (← r .read-record .ensures, passed (m .are-members .ensures) (k .before .before .if1 .left), eq-eqb _ 32 (k .before .if2 .left), passed (k .is-key .ensures) (e .before .if3 .left), passed (e .is-element .ensures) (r .before .if4 .left), passed (f .is-share-of .ensures) (c .before .before .if5 .left), failed (c .before .is-of-round .ensures) (c .if6 .taken))
 
 returns-7 : tie.Need-returns-7
 unfolding shareAdmissionChecks membersChecks shareInputChecks shareFormChecks
@@ -77,7 +77,7 @@ returns-7 c =
     let k = e .before .before in
     let m = k .before .before .before in
     simp
-    (← r .read-record .ensures, passed (m .are-members .ensures) (k .before .before .if1 .left), eq-eqb _ 32 (k .before .if2 .left), passed (k .is-key .ensures) (e .before .if3 .left), passed (e .is-element .ensures) (r .before .if4 .left), passed (f .is-share-of .ensures) (c .before .before .if5 .left), passed (c .before .is-roundless .ensures) (c .if6 .left))
+    (← r .read-record .ensures, passed (m .are-members .ensures) (k .before .before .if1 .left), eq-eqb _ 32 (k .before .if2 .left), passed (k .is-key .ensures) (e .before .if3 .left), passed (e .is-element .ensures) (r .before .if4 .left), passed (f .is-share-of .ensures) (c .before .before .if5 .left), passed (c .before .is-of-round .ensures) (c .if6 .left))
 
 pub admission-refusal-spec : {M : Type 1} → statement M
 admission-refusal-spec =
@@ -93,6 +93,6 @@ admission-refusal-spec =
     read-record-requires
     is-share-of-requires
     returns-5
-    is-roundless-requires
+    is-of-round-requires
     returns-6
     returns-7)

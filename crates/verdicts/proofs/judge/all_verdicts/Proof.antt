@@ -29,7 +29,7 @@ board-keys-requires c κs =
     let w = c .before .before in
     let b = w .args .b .now in
     let r = reached (w .args .s) b (w .pre .1) in
-    (w .pre .0 .n-most, r .keys, sorted (w .args .s .n) b (r .form))
+    (w .pre .0 .n-most, r .keys, sorted (w .args .s) b (r .form))
 
 loop-holds : tie.Need-loop-holds Inv-loop μ-loop
 loop-holds c =

@@ -11,7 +11,7 @@ use Rattle.verdicts.proofs.verdicts.verdict.Tie as tie
 lines-of-requires : tie.Need-lines-of-requires
 lines-of-requires c κs =
     let w = c .before .before in
-    sorted (w .args .s .n) (w .args .b .now) (reached (w .args .s) (w .args .b .now) (w .pre .1) .form)
+    sorted (w .args .s) (w .args .b .now) (reached (w .args .s) (w .args .b .now) (w .pre .1) .form)
 
 records-requires : tie.Need-records-requires
 records-requires c κs = search needs

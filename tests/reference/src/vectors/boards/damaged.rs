@@ -78,7 +78,7 @@ fn changes(group: &Group, kind: u32, word: usize) -> [Change<'_>; 4] {
             last,
         ],
         _ => [
-            Box::new(|w| w + 1),
+            Box::new(|w| w.wrapping_add(1)),
             Box::new(|w| w ^ 3),
             Box::new(|w| w ^ 2),
             last,

@@ -21,7 +21,7 @@ pub fn add(vectors: &mut Vectors, figures: Figures, all: &Posted) {
 /// Boards of group 1, where forged figures are accepted by luck.
 pub fn in_group_1(vectors: &mut Vectors, numbers: &mut Numbers) {
     committed(vectors);
-    uncarried(vectors, numbers);
+    uncarried(vectors, FOUR, 12, numbers);
     by_luck(vectors, numbers);
 }
 
@@ -35,7 +35,7 @@ fn committed(vectors: &mut Vectors) {
 }
 
 /// Openings that are not right, with enough shares and without.
-fn openings(vectors: &mut Vectors, figures: Figures, all: &Posted) {
+pub fn openings(vectors: &mut Vectors, figures: Figures, all: &Posted) {
     let group = proper(figures).group;
     let opening = all.at(OPENING, 2, 0);
     let changes: [&dyn Fn(u32) -> u32; 5] = [
@@ -58,7 +58,7 @@ fn openings(vectors: &mut Vectors, figures: Figures, all: &Posted) {
 }
 
 /// No openings, and shares of dealer 3 that are bad: one, so that others serve, then so many that he is stuck.
-fn shares(vectors: &mut Vectors, figures: Figures, all: &Posted) {
+pub fn shares(vectors: &mut Vectors, figures: Figures, all: &Posted) {
     let group = proper(figures).group;
     let right = all.without(is_opening);
     let changes: [(usize, &dyn Fn(u32) -> u32); 9] = [
@@ -146,12 +146,12 @@ fn keys(vectors: &mut Vectors, figures: Figures, all: &Posted) {
     assert_eq!(refused_by(&board.add(vectors)), Some(14));
 }
 
-/// Dealings of group 1 that no polynomial carries, some of them accepted: opened, recovered from each two members, and
-/// with every opening.
-fn uncarried(vectors: &mut Vectors, numbers: &mut Numbers) {
-    let members = any_members(FOUR, numbers);
+/// So many dealings to four members of group 1 that no polynomial carries, some of them accepted: opened, recovered from
+/// each two members, and with every opening.
+pub fn uncarried(vectors: &mut Vectors, figures: Figures, count: usize, numbers: &mut Numbers) {
+    let members = any_members(figures, numbers);
     let (q, n) = (members.round.group.q, members.round.n);
-    for _ in 0..12 {
+    for _ in 0..count {
         let mut records = members.key_records();
         let exponents = list(numbers, n, q);
         let lines = members.lines(3, &exponents, &list(numbers, n, q));
@@ -163,8 +163,8 @@ fn uncarried(vectors: &mut Vectors, numbers: &mut Numbers) {
         records.extend(lines);
         let (others, opening) = any_dealing(&members, 1, numbers);
         records.extend(others);
-        records.extend([opening, [OPENING, 3, 0, 0, 0, 0, 0, 0]]);
-        let mut board = Posted::of(FOUR, records);
+        records.extend([opening, members.opening(3, 0)]);
+        let mut board = Posted::of(figures, records);
         board.sort();
         vectors.load(&board.board());
         for pair in [[1, 2], [1, 3], [1, 4], [2, 3], [2, 4], [3, 4]] {

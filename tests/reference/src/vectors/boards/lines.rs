@@ -23,10 +23,10 @@ const LINES: Operation = Operation {
 };
 
 #[derive(Clone)]
-struct Case {
-    figures: Figures,
-    dealer: u32,
-    posted: Posted,
+pub struct Case {
+    pub figures: Figures,
+    pub dealer: u32,
+    pub posted: Posted,
 }
 
 impl InRound for Case {
@@ -36,7 +36,7 @@ impl InRound for Case {
 
     /// Adds a case of each operation.
     fn add(&self, vectors: &mut Vectors) -> Option<u32> {
-        let Figures { number, n, t } = self.figures;
+        let [number, n, t] = vectors.round(self.figures);
         let arguments = [number, n, t, self.dealer, vectors.base.len() as u32];
         let board = self.posted.board();
         let payload = splices(&vectors.base, &board);
@@ -95,7 +95,7 @@ fn in_part(vectors: &mut Vectors, figures: Figures, all: &Posted) {
     }
 }
 
-fn refused(vectors: &mut Vectors, figures: Figures, posted: &Posted) {
+pub fn refused(vectors: &mut Vectors, figures: Figures, posted: &Posted) {
     let right = Case {
         figures,
         dealer: 3,
@@ -112,12 +112,12 @@ fn refused(vectors: &mut Vectors, figures: Figures, posted: &Posted) {
         (4, &|c| c.posted.change(0, 1, |_| 1)),
         (4, &|c| c.posted.change(0, 2, |_| 5)),
         (4, &|c| c.posted.change(0, 4, |_| 1)),
-        (4, &|c| c.posted.change(0, 7, |_| 1)),
+        (17, &|c| c.posted.change(0, 7, |round| round ^ 1)),
         (5, &|c| swap(c, LINE, 3)),
         (5, &|c| swap(c, LINE, 4)),
         (5, &|c| swap(c, KEY, 0)),
     ];
-    let order = [1, 2, 8, 3, 4, 5];
+    let order = [1, 2, 8, 3, 4, 17, 5];
     in_round(vectors, &order, &right, &faults);
 }
 

@@ -5,7 +5,7 @@ use super::super::Vectors;
 use crate::draw::set_record;
 use crate::modular::value_at;
 use crate::numbers::Numbers;
-use crate::posting::{opening_record, Members};
+use crate::posting::Members;
 use crate::record::{self, Record, KEY, LINE, OPENING, SHARE};
 use crate::round::Figures;
 
@@ -30,7 +30,7 @@ pub fn any_dealing(members: &Members, dealer: u32, numbers: &mut Numbers) -> (Ve
     let polynomial = list(numbers, members.round.t, q);
     let exponents: Vec<u32> = (1..=n).map(|i| value_at(&polynomial, i, q)).collect();
     let lines = members.lines(dealer, &exponents, &list(numbers, n, q));
-    (lines, opening_record(dealer, polynomial[0]))
+    (lines, members.opening(dealer, polynomial[0]))
 }
 
 impl Posted {

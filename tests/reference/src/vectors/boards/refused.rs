@@ -41,7 +41,7 @@ fn sets(vectors: &mut Vectors, figures: Figures, all: &Posted) {
 /// The most members of each group and one more, with and without their keys.
 pub fn ranges(vectors: &mut Vectors, numbers: &mut Numbers) {
     for (number, n) in [(1, 10), (2, 31), (3, 31)] {
-        let figures = Figures { number, n, t: 1 };
+        let figures = Figures::of(number, n, 1);
         let members = any_members(figures, numbers);
         let mut board = Posted::of(figures, members.key_records());
         assert_eq!(refused_by(&board.add(vectors)), Some(14));
@@ -59,7 +59,7 @@ pub fn ranges(vectors: &mut Vectors, numbers: &mut Numbers) {
     }
 }
 
-/// The refusals of the last line. Faults of a record's form lie before those of order.
+/// The refusals of the last line. Faults of a record's form and round lie before those of order.
 fn boards(vectors: &mut Vectors, figures: Figures, all: &Posted) {
     let p = proper(figures).group.p;
     let faults: [Fault<Posted>; 25] = [
@@ -77,7 +77,7 @@ fn boards(vectors: &mut Vectors, figures: Figures, all: &Posted) {
         (3, &|b| b.rest.resize(33, 0)),
         (4, &|b| b.change(b.at(KEY, 0, 3), 4, |_| 1)),
         (4, &|b| b.change(b.at(LINE, 4, 1), 0, |_| 5)),
-        (4, &|b| b.change(b.at(LINE, 4, 1), 7, |_| 1)),
+        (17, &|b| b.change(b.at(LINE, 4, 1), 7, |round| round ^ 1)),
         (5, &|b| swap_lines(b, 2)),
         (5, &|b| swap_lines(b, 3)),
         (12, &|b| b.remove(|r| r[0] == KEY && r[2] == 2)),
@@ -93,7 +93,7 @@ fn boards(vectors: &mut Vectors, figures: Figures, all: &Posted) {
             b.remove(|r| r[1] == 4 && (is_opening(r) || is_share(r)))
         }),
     ];
-    let order = [3, 4, 1, 2, 3, 4, 5, 12, 6, 14, 13];
+    let order = [3, 4, 1, 2, 3, 4, 17, 5, 12, 6, 14, 13];
     singly_and_in_pairs(&order, all, &faults, |board| {
         refused_by(&board.add(vectors))
     });
@@ -105,22 +105,22 @@ fn swap_lines(board: &mut Posted, member: u32) {
     board.records.swap(k, k + 1);
 }
 
-/// Of two records the first counts: one out of order before one of no form, and the other way round. A record with
-/// both faults is refused for its form.
+/// Of two records the first counts: one out of order before one of another round, and the other way round. A record with
+/// both faults is refused for its round.
 fn record_by_record(vectors: &mut Vectors, all: &Posted) {
     let keys = all.at(KEY, 0, 3);
     let line = all.at(LINE, 3, 3);
-    for (swapped, damaged, number) in [(keys, line, 5), (line, keys, 4), (line, line + 2, 5)] {
+    for (swapped, damaged, number) in [(keys, line, 5), (line, keys, 17), (line, line + 2, 5)] {
         let mut board = all.clone();
-        board.change(damaged, 7, |_| 1);
+        board.change(damaged, 7, |round| round ^ 1);
         board.records.swap(swapped, swapped + 1);
         assert_eq!(refused_by(&board.add(vectors)), Some(number));
     }
     for record in [keys, line] {
         let mut board = all.clone();
         board.records.insert(record, all.records[record]);
-        board.change(record + 1, 7, |_| 1);
-        assert_eq!(refused_by(&board.add(vectors)), Some(4));
+        board.change(record + 1, 7, |round| round ^ 1);
+        assert_eq!(refused_by(&board.add(vectors)), Some(17));
     }
 }
 

@@ -11,7 +11,7 @@ const COUNT: usize = 40;
 pub fn add(vectors: &mut Vectors, numbers: &mut Numbers) {
     for number in 1..=3 {
         for (n, t) in [(2, 1), (4, 3), (6, 3)] {
-            let all = Posted::loaded(vectors, Figures { number, n, t }, numbers);
+            let all = Posted::loaded(vectors, Figures::of(number, n, t), numbers);
             for _ in 0..COUNT {
                 let mut board = all.clone();
                 for _ in 0..1 + numbers.below(4) {

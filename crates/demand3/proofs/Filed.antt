@@ -1,0 +1,179 @@
+-- Boards filed before records had a round's number: the checks of 01 differ from those of round 0 in the number of a test that holds where
+-- word 7 is 0, and the messages are the same, so both answer the same, and so do the verdicts and the draw.
+use mathlib.Core.Path.{_≡_, refl, sym, ap, _∙_}
+use mathlib.Core.Bool.{Bool, true, false, _&&_}
+use mathlib.Core.List.{List, [], _∷_, _++_}
+use mathlib.Core.Logic.{_⊎_, inl, inr}
+use Prim.Native.Nat.{ℕ, zero, suc, _+_, _-_, _≤_, _<_}
+use native.Mathlib.Omega.{arith}
+use borrow.Author.Tests.{eq-eqb, eqb-true}
+use lib.ListN.{length, take}
+use lib.Dec.{ltb, eqb}
+use Rattle.words.specs.Choice.{pick}
+use Rattle.words.specs.Lists.{all, map, upFrom}
+use Rattle.words.specs.Checks.{Check, _unless_, Outcome, outcome, isValue, Met, FirstUnmet}
+use Rattle.words.specs.Bytes.{recordIn}
+use Rattle.words.specs.declared.Record.{Record}
+use Rattle.words.proofs.Lists.{All-to, All-each, map-same, up-within}
+use Rattle.words.proofs.Tests.{false-true}
+use Rattle.words.proofs.Checks.{decided, refused-exactly}
+use Rattle.words.proofs.Stages.{front-outcome}
+use Rattle.words.proofs.Alike.{Alike, alike-behind, alike-before, alike-outcome}
+use Rattle.group.specs.Power.{pow}
+use Rattle.group.specs.Element.{isElement, isExponent}
+use Rattle.group.specs.declared.Element.{Element}
+use Rattle.sharing.specs.Setting.{ProperSetting, members}
+use Rattle.sharing.specs.Answer.{degreeProduct, recovered}
+use Rattle.sharing.specs.declared.Setting.{Setting}
+use Rattle.records.specs.Layout.{shareKind, dealerOf, memberOf, uOf, ZOf, shareC, shareR, entry, recordAt, recordOf}
+use Rattle.records.specs.Keys.{keyChecks}
+use Rattle.records.proofs.Members.{members-exactly}
+use Rattle.challenge.specs.Message.{shareTag, challengeOf, checkPolynomial}
+use Rattle.challenge.proofs.Challenges.{round-zero}
+use Rattle.equality.specs.Equality.{announced}
+use Rattle.dealing.specs.Dealing.{addressChecks, judgeSizeChecks, vIn, YIn, rIn, cIn, vsIn, lineChecks, dealingFormChecks, recomputed, rangeChecks, equationChecks, lineFigureChecks, judgeDealingIn}
+use Rattle.share.specs.Share.{membersChecks, shareInputChecks, shareFormChecks, shareAdmissionChecks, shareRecomputed, shareFigureChecks, judgeShareIn}
+use Rattle.board.specs.Search.{recordsIn}
+use Rattle.board.specs.Board.{recordChecks, lengthChecks, formChecks, boardKeyChecks, boardChecks, lineCount, linesOf, openingPlace}
+use Rattle.board.proofs.Searches.{filter-same}
+use Rattle.board.proofs.Order.{reached}
+use Rattle.board.proofs.LineRun.{line-record}
+use Rattle.verdicts.specs.Verdict.{Judges, judges, dealingAnswer, shareAnswer, isShareBy, sharesBy, fromShares, isOpened, secretBy, verdictFrom, verdictOn, verdictsOn}
+use Rattle.verdicts.specs.Draw.{secretsProduct, drawChecks, boardProduct, drawIn}
+use Rattle.verdicts.specs.declared.Secret.the-variants.{Opened, Recovered, Stuck}
+use Rattle.verdicts.specs.declared.Verdict.the-variants.{None}
+use Rattle.demand3.specs.Filed.{filedRecordChecks, filedBoardChecks, filedLineChecks, filedEquationChecks, filedDealing, filedShareChecks, filedShareFigures, filedShare, filedJudges, filedDraw, FiledAsBefore}
+
+-- ---- two judges that answer the same on a board give it the same verdict
+pick-same : {A : Type 0} (t : Bool) (x y z : A) → (t ≡ true → x ≡ y) → pick t x z ≡ pick t y z
+pick-same true x y z h = h refl
+pick-same false x y z h = refl
+
+module _ (J K : Judges) (S : Setting) (b : List ℕ) (d : ℕ) (share : (i : ℕ) → i < recordsIn b → shareAnswer J S b d i ≡ shareAnswer K S b d i) where
+  same-shares : sharesBy J S b d ≡ sharesBy K S b d
+  unfolding sharesBy isShareBy
+  same-shares =
+      filter-same (isShareBy J S b d) (isShareBy K S b d) (upFrom 0 (recordsIn b))
+      (All-to (upFrom 0 (recordsIn b))
+      (λ i s. ap (λ (o : Outcome Element). eqb (recordAt b i .w0) shareKind && (eqb (dealerOf (recordAt b i)) d && isValue o)) (share i (omega (arith, s .1))))
+      (up-within 0 (recordsIn b) (0 + recordsIn b) (omega arith)))
+
+  same-secret : secretBy J S b d ≡ secretBy K S b d
+  unfolding secretBy fromShares
+  same-secret =
+      let given : (ℕ → ℕ) → List ℕ → List ℕ = λ f is. map f (take (S .t) is) in
+      ap
+      (λ (is : List ℕ).
+      pick (isOpened S b d) (Opened (record { 0 = pow (S .group .p) (S .group .h .0) (uOf (recordAt b (openingPlace b d))) }))
+      (pick (ltb (length is) (S .t)) Stuck
+      (Recovered (record { 0 = recovered (S .group) (given (λ i. memberOf (recordAt b i)) is) (given (λ i. ZOf (recordAt b i)) is) }))))
+      same-shares
+
+  same-verdict : (lineCount b d ≡ S .n → dealingAnswer J S b d ≡ dealingAnswer K S b d) → verdictOn J S b d ≡ verdictOn K S b d
+  unfolding verdictOn
+  same-verdict h =
+      ap (pick (eqb (lineCount b d) 0) None)
+      (pick-same (eqb (lineCount b d) (S .n)) _ _ _ (λ e j. verdictFrom (h (eqb-true (lineCount b d) (S .n) e) j) (same-secret j)))
+
+-- ---- round 0
+module _ (S : Setting) (z : S .round ≡ 0) where
+  -- the test of word 7, which holds
+  word-alike : (x : ℕ) → x ≡ 0 → (eqb x (S .round) ≡ eqb x 0) × (eqb x 0 ≡ false → _≡_ {A = ℕ} 17 4)
+  word-alike x e = (ap (eqb x) z, λ f. absurd (false-true (sym f ∙ eq-eqb x 0 e)))
+
+  -- the figures, whose messages are those of 01
+  filed-equations : (d : ℕ) (ys b : List ℕ) → equationChecks S d ys (vIn b) (YIn b) (rIn b) (cIn b) ≡ filedEquationChecks S d ys b
+  unfolding equationChecks recomputed checkPolynomial vsIn
+  filed-equations d ys b = λ j.
+      let G = S .group in
+      let m = round-zero S z d in
+      let ds = map (λ k. challengeOf S (m .coefficient (vIn b) (YIn b) k j)) (upFrom 0 (S .n - S .t)) in
+      let a1 : ℕ → ℕ = λ i. announced G (G .g .0) (vIn b i) (cIn b i) (rIn b i) in
+      let a2 : ℕ → ℕ = λ i. announced G (entry ys i) (YIn b i) (cIn b i) (rIn b i) in
+      9 unless eqb (degreeProduct S (map (vIn b) (members (S .n))) ds) 1
+      ∷ 10 unless all (λ i. eqb (cIn b i) (challengeOf S (m .dealing (vIn b) (YIn b) a1 a2 j))) (members (S .n))
+      ∷ []
+
+  filed-figures : (d i y Y : ℕ) (r : Record) → shareFigureChecks shareTag S d i y Y r ≡ filedShareFigures S d i y Y r
+  unfolding shareFigureChecks shareRecomputed
+  filed-figures d i y Y r = λ j.
+      let G = S .group in
+      let a1 = announced G (G .h .0) y (shareC r) (shareR r) in
+      let a2 = announced G (ZOf r) Y (shareC r) (shareR r) in
+      6 unless isElement G (ZOf r)
+      ∷ 7 unless (isExponent G (shareC r) && isExponent G (shareR r))
+      ∷ 10 unless eqb (shareC r) (challengeOf S (round-zero S z d .share shareTag i y Y (ZOf r) a1 a2 j))
+      ∷ []
+
+  filed-dealing : (d : ℕ) (ys b : List ℕ) → ((i : ℕ) → 1 ≤ i → i ≤ S .n → recordOf b i .w7 ≡ 0) → judgeDealingIn S d ys b ≡ filedDealing S d ys b
+  unfolding judgeDealingIn dealingFormChecks lineChecks keyChecks
+  filed-dealing d ys b w =
+      let front = addressChecks S d ++ judgeSizeChecks S ys b in
+      let keys = keyChecks (S .group) ys in
+      let figures = lineFigureChecks S d ys b in
+      let met : all (λ i. eqb (recordOf b i .w7) 0) (members (S .n)) ≡ true =
+      members-exactly (λ i. eqb (recordOf b i .w7) 0) (S .n) .1 (λ i h l. eq-eqb (recordOf b i .w7) 0 (w i h l)) in
+      let lines : Alike (lineChecks S d b) (filedLineChecks (S .n) d b) =
+      (refl, λ e. refl, (ap (λ (r : ℕ). all (λ i. eqb (recordOf b i .w7) r) (members (S .n))) z, λ f. absurd (false-true (sym f ∙ met)), tt)) in
+      let own = front ++ (keys ++ lineChecks S d b) in
+      let filed = front ++ (keys ++ filedLineChecks (S .n) d b) in
+      let form = alike-behind front (keys ++ lineChecks S d b) (keys ++ filedLineChecks (S .n) d b)
+      (alike-behind keys (lineChecks S d b) (filedLineChecks (S .n) d b) lines) in
+      alike-outcome (own ++ figures) (filed ++ figures) tt (alike-before own filed figures form)
+      ∙ ap (λ (es : List Check). outcome (filed ++ (rangeChecks S (vIn b) (YIn b) (rIn b) (cIn b) ++ es)) tt) (filed-equations d ys b)
+
+  filed-share : (d i y Y : ℕ) (b : List ℕ) → recordIn b .w7 ≡ 0 → judgeShareIn S d i y Y b ≡ filedShare S d i y Y b
+  unfolding judgeShareIn shareAdmissionChecks shareFormChecks
+  filed-share d i y Y b w =
+      let front = membersChecks S d i ++ shareInputChecks (S .group) y Y b in
+      let figures = shareFigureChecks shareTag S d i y Y (recordIn b) in
+      let k = word-alike (recordIn b .w7) w in
+      let own = shareFormChecks (S .round) d i (recordIn b) in
+      let filed = filedShareChecks d i (recordIn b) in
+      alike-outcome ((front ++ own) ++ figures) ((front ++ filed) ++ figures) (record { 0 = ZOf (recordIn b) })
+      (alike-before (front ++ own) (front ++ filed) figures (alike-behind front own filed (refl, λ e. refl, (k .0, k .1, tt))))
+      ∙ ap (λ (es : List Check). outcome ((front ++ filed) ++ es) (record { 0 = ZOf (recordIn b) })) (filed-figures d i y Y (recordIn b))
+
+  module _ (P : ProperSetting S) (b : List ℕ) (w : (i : ℕ) → i < recordsIn b → recordAt b i .w7 ≡ 0) where
+    records-alike : (i m : ℕ) → i + m ≤ recordsIn b → Alike (recordChecks S b i m) (filedRecordChecks (S .n) b i m)
+    records-alike i zero h = tt
+    records-alike i (suc m) h =
+        let k = word-alike (recordAt b i .w7) (w i (omega arith)) in
+        (refl, λ e. refl, (k .0, k .1, (refl, λ e. refl, records-alike (suc i) m (omega arith))))
+
+    board-alike : Alike (boardChecks S b) (filedBoardChecks S b)
+    unfolding boardChecks formChecks boardKeyChecks keyChecks
+    board-alike =
+        let size = lengthChecks b in
+        let keys = boardKeyChecks S b in
+        let own = recordChecks S b 0 (recordsIn b) in
+        let filed = filedRecordChecks (S .n) b 0 (recordsIn b) in
+        alike-before (size ++ own) (size ++ filed) keys (alike-behind size own filed (records-alike 0 (recordsIn b) (omega arith)))
+
+    filed-verdict : Met (boardChecks S b) → (d : ℕ) → verdictOn judges S b d ≡ verdictOn filedJudges S b d
+    unfolding shareAnswer recordAt
+    filed-verdict m d =
+        same-verdict judges filedJudges S b d (λ i h. filed-share d _ _ _ _ (w i h))
+        (λ c. filed-dealing d _ (linesOf b d) (λ i h l. line-record S b P (reached S b m .form) d (i - 1) (omega arith) .3 ∙ z))
+
+    filed-draw : Met (boardChecks S b) ⊎ ((k : ℕ) × FirstUnmet k (boardChecks S b)) → drawIn judges S b ≡ filedDraw S b
+    unfolding drawIn
+    filed-draw (inl m) =
+        let verdicts = map-same (verdictOn judges S b) (verdictOn filedJudges S b) (members (S .n)) (All-each (members (S .n)) (filed-verdict m)) in
+        let ends = drawChecks (S .t) (verdictsOn filedJudges S b) in
+        (λ j. outcome (boardChecks S b ++ drawChecks (S .t) (verdicts j)) (record { 0 = secretsProduct (S .group .p) (verdicts j) }))
+        ∙ alike-outcome (boardChecks S b ++ ends) (filedBoardChecks S b ++ ends) (boardProduct filedJudges S b)
+        (alike-before (boardChecks S b) (filedBoardChecks S b) ends board-alike)
+    filed-draw (inr u) =
+        let same = sym (alike-outcome (boardChecks S b) (filedBoardChecks S b) (tt {0}) board-alike) in
+        let first = refused-exactly Unit (filedBoardChecks S b) tt (u .0) .0 (same ∙ refused-exactly Unit (boardChecks S b) tt (u .0) .1 (u .1)) in
+        sym (front-outcome (boardChecks S b) (drawChecks (S .t) (verdictsOn judges S b)) (u .0) (u .1) (boardProduct judges S b))
+        ∙ front-outcome (filedBoardChecks S b) (drawChecks (S .t) (verdictsOn filedJudges S b)) (u .0) first (boardProduct filedJudges S b)
+
+pub filed-as-before : FiledAsBefore
+filed-as-before S P z b w =
+    record {
+      before = alike-outcome (boardChecks S b) (filedBoardChecks S b) tt (board-alike S z P b w);
+      verdict = filed-verdict S z P b w;
+      draw = filed-draw S z P b w (decided (boardChecks S b));
+    }

@@ -1,0 +1,112 @@
+-- 01 as it was before records had a round's number: word 7 is a spare word like the others, refused by 4, and the messages have nothing of
+-- the round in them. In round 0 every board that was filed with zero in each word 7 is judged as it was then.
+use mathlib.Core.Path.{_≡_}
+use mathlib.Core.Bool.{_&&_}
+use mathlib.Core.List.{List, [], _∷_, _++_}
+use Prim.Native.Nat.{ℕ, zero, suc, _-_, _<_}
+use lib.Dec.{eqb}
+use Rattle.words.specs.Lists.{all, map, upFrom}
+use Rattle.words.specs.Checks.{Check, _unless_, Outcome, outcome, Met}
+use Rattle.words.specs.Bytes.{recordIn}
+use Rattle.words.specs.declared.Record.{Record}
+use Rattle.group.specs.Element.{isElement, isExponent}
+use Rattle.group.specs.declared.Element.{Element}
+use Rattle.group.specs.declared.Group.{Group}
+use Rattle.sharing.specs.Setting.{ProperSetting, members}
+use Rattle.sharing.specs.Answer.{degreeProduct}
+use Rattle.sharing.specs.declared.Setting.{Setting}
+use Rattle.records.specs.Layout.{ZOf, shareC, shareR, entry, recordAt, recordOf}
+use Rattle.records.specs.Keys.{isKey}
+use Rattle.challenge.specs.Message.{dealingTag, shareTag, coefficientTag, dealingFigures, shareFigures, coefficientFigures, roundlessMessage, challengeOf}
+use Rattle.equality.specs.Equality.{announced}
+use Rattle.dealing.specs.Dealing.{addressChecks, judgeSizeChecks, isLineOf, vIn, YIn, rIn, cIn, vsIn, rangeChecks}
+use Rattle.share.specs.Share.{membersChecks, shareInputChecks, isShareFor}
+use Rattle.board.specs.Search.{recordsIn}
+use Rattle.board.specs.Board.{isShaped, inOrder, lengthChecks, hasKey, keysIn, boardChecks}
+use Rattle.verdicts.specs.Verdict.{Judges, judges, verdictOn, verdictsOn}
+use Rattle.verdicts.specs.Draw.{drawChecks, boardProduct, drawIn}
+
+-- ---- the checks of 01
+abbrev pub filedRecordChecks : ℕ → List ℕ → ℕ → ℕ → List Check
+filedRecordChecks n b i zero = []
+filedRecordChecks n b i (suc m) =
+    4 unless isShaped n (recordAt b i)
+    ∷ 4 unless eqb (recordAt b i .w7) 0
+    ∷ 5 unless inOrder b i
+    ∷ filedRecordChecks n b (suc i) m
+
+abbrev pub filedKeyChecks : Group → List ℕ → List Check
+filedKeyChecks G ys = 6 unless all (isKey G) ys ∷ []
+
+abbrev pub filedBoardChecks : Setting → List ℕ → List Check
+filedBoardChecks S b =
+    (lengthChecks b ++ filedRecordChecks (S .n) b 0 (recordsIn b))
+    ++ (12 unless all (hasKey b) (members (S .n)) ∷ filedKeyChecks (S .group) (keysIn (S .n) b))
+
+abbrev pub filedLineChecks : ℕ → ℕ → List ℕ → List Check
+filedLineChecks n d b = 4 unless all (isLineOf d b) (members n) ∷ 4 unless all (λ i. eqb (recordOf b i .w7) 0) (members n) ∷ []
+
+-- the judge's own check polynomial, and the challenge that the lines give
+abbrev pub filedPolynomial : Setting → ℕ → List ℕ → List ℕ
+filedPolynomial S d b =
+    map (λ k. challengeOf S (roundlessMessage coefficientTag S d (coefficientFigures (S .n) (vIn b) (YIn b) k))) (upFrom 0 (S .n - S .t))
+
+abbrev pub filedChallenge : Setting → ℕ → List ℕ → List ℕ → ℕ
+filedChallenge S d ys b =
+    let G = S .group in
+    challengeOf S
+    (roundlessMessage dealingTag S d
+    (dealingFigures (S .n) (vIn b) (YIn b)
+    (λ i. announced G (G .g .0) (vIn b i) (cIn b i) (rIn b i)) (λ i. announced G (entry ys i) (YIn b i) (cIn b i) (rIn b i))))
+
+abbrev pub filedEquationChecks : Setting → ℕ → List ℕ → List ℕ → List Check
+filedEquationChecks S d ys b =
+    9 unless eqb (degreeProduct S (vsIn (S .n) b) (filedPolynomial S d b)) 1
+    ∷ 10 unless all (λ i. eqb (cIn b i) (filedChallenge S d ys b)) (members (S .n))
+    ∷ []
+
+abbrev pub filedDealing : Setting → ℕ → List ℕ → List ℕ → Outcome (Unit {0})
+filedDealing S d ys b =
+    outcome
+    (((addressChecks S d ++ judgeSizeChecks S ys b) ++ (filedKeyChecks (S .group) ys ++ filedLineChecks (S .n) d b))
+    ++ (rangeChecks S (vIn b) (YIn b) (rIn b) (cIn b) ++ filedEquationChecks S d ys b))
+    tt
+
+abbrev pub filedShareChecks : ℕ → ℕ → Record → List Check
+filedShareChecks d i r = 4 unless isShareFor d i r ∷ 4 unless eqb (r .w7) 0 ∷ []
+
+abbrev pub filedShareFigures : Setting → ℕ → ℕ → ℕ → ℕ → Record → List Check
+filedShareFigures S d i y Y r =
+    let G = S .group in
+    let a1 = announced G (G .h .0) y (shareC r) (shareR r) in
+    let a2 = announced G (ZOf r) Y (shareC r) (shareR r) in
+    6 unless isElement G (ZOf r)
+    ∷ 7 unless (isExponent G (shareC r) && isExponent G (shareR r))
+    ∷ 10 unless eqb (shareC r) (challengeOf S (roundlessMessage shareTag S d (shareFigures i y Y (ZOf r) a1 a2)))
+    ∷ []
+
+abbrev pub filedShare : Setting → ℕ → ℕ → ℕ → ℕ → List ℕ → Outcome Element
+filedShare S d i y Y b =
+    let r = recordIn b in
+    outcome
+    (((membersChecks S d i ++ shareInputChecks (S .group) y Y b) ++ filedShareChecks d i r) ++ filedShareFigures S d i y Y r)
+    (record { 0 = ZOf r })
+
+abbrev pub filedJudges : Judges
+filedJudges = record { dealing = filedDealing; share = filedShare }
+
+abbrev pub filedDraw : Setting → List ℕ → Outcome Element
+filedDraw S b = outcome (filedBoardChecks S b ++ drawChecks (S .t) (verdictsOn filedJudges S b)) (boardProduct filedJudges S b)
+
+-- ---- the claim
+pub record FiledBoard (S : Setting) (b : List ℕ) : Type 0 where
+  -- before the verdicts
+  pub before : outcome (boardChecks S b) tt ≡ outcome (filedBoardChecks S b) (tt {0})
+  -- each verdict, where verdicts are reached
+  pub verdict : Met (boardChecks S b) → (d : ℕ) → verdictOn judges S b d ≡ verdictOn filedJudges S b d
+  -- the draw value, or the number by which there is none
+  pub draw : drawIn judges S b ≡ filedDraw S b
+
+abbrev pub FiledAsBefore : Type 0
+FiledAsBefore =
+    (S : Setting) → ProperSetting S → S .round ≡ 0 → (b : List ℕ) → ((i : ℕ) → i < recordsIn b → recordAt b i .w7 ≡ 0) → FiledBoard S b

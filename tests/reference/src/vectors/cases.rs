@@ -1,0 +1,62 @@
+//! The cases read again, each with what it is answered.
+
+use super::boards::applied;
+use crate::record::{self, SIZE};
+
+pub struct Case<'a> {
+    /// The number of the round before the case.
+    pub round: u32,
+    pub operation: u32,
+    pub arguments: [u32; 6],
+    pub payload: &'a [u8],
+    /// The operation's name in the case's line, and what stands behind it.
+    pub name: &'a str,
+    pub answer: &'a str,
+    /// The text of `draw` behind the line.
+    pub text: &'a str,
+    base: &'a [u8],
+}
+
+impl Case<'_> {
+    /// The set of a case of the text.
+    pub fn set(&self) -> &[u8] {
+        &self.payload[..self.arguments[5] as usize]
+    }
+
+    /// The board of a case on boards.
+    pub fn board(&self) -> Vec<u8> {
+        applied(self.base, &self.payload[self.arguments[5] as usize..])
+    }
+}
+
+/// The cases of an input with their lines and, of the text, so many bytes behind as the line says. None where these are
+/// not the answers to the input.
+pub fn read<'a>(mut input: &'a [u8], mut output: &'a str) -> Option<Vec<Case<'a>>> {
+    let (mut cases, mut round, mut base) = (Vec::new(), 0, &[][..]);
+    while !input.is_empty() {
+        let (header, behind) = input.split_at_checked(SIZE)?;
+        let [operation, a, b, c, d, e, f, length] = record::read(header);
+        let (payload, rest) = behind.split_at_checked(length as usize)?;
+        let (line, mut below) = output.split_once('\n')?;
+        let (name, answer) = line.split_once(' ')?;
+        let mut text = "";
+        match operation {
+            13 => (text, below) = below.split_at_checked(answer.parse().ok()?)?,
+            14 => base = payload,
+            16 => round = a,
+            _ => {}
+        }
+        cases.push(Case {
+            round,
+            operation,
+            arguments: [a, b, c, d, e, f],
+            payload,
+            name,
+            answer,
+            text,
+            base,
+        });
+        (input, output) = (rest, below);
+    }
+    output.is_empty().then_some(cases)
+}
