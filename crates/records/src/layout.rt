@@ -114,7 +114,7 @@ pub fn set_record(number: u32, n: u32, t: u32, round: u32) -> Record
 }
 
 // Whether all words are the same.
-fn agrees(r: Record, s: Record) -> bool
+pub fn agrees(r: Record, s: Record) -> bool
     ensures { λ a. ⌜ a ≡ agrees r s ⌝ }
 {
     if r.w0 != s.w0 {

@@ -11,6 +11,7 @@ pub use layout::LINE;
 pub use layout::OPENING;
 pub use layout::SET;
 pub use layout::SHARE;
+pub use layout::agrees;
 pub use layout::is_key_record;
 pub use layout::is_line_record;
 pub use layout::is_of_round;

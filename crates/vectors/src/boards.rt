@@ -1,6 +1,7 @@
-// Cases on boards. A case of its own loads the base board. In the payloads of the others a board is given by changes of the
-// base, whose length is argument 5: the place in the base, how many of its bytes are removed there and how many are put in
-// their place, a word each, and these bytes. Places ascend.
+// Cases on boards and on chains. A case of its own loads the base. In the payloads of the others a board or a chain is given by
+// changes of the base, whose length is argument 5: the place in the base, how many of its bytes are removed there and how many
+// are put in their place, a word each, and these bytes. Places ascend.
+use crate::chains;
 use crate::draw_text;
 use crate::lines;
 use crate::payload;
@@ -25,7 +26,7 @@ fn copy(from: &[u8], start: usize, end: usize, to: &mut [u8], place: usize) -> u
     k
 }
 
-// Builds the board that the changes make of the first `size` bytes of the base. Returns its length.
+// Builds the board or chain that the changes make of the first `size` bytes of the base. Returns its length.
 fn build(base: &[u8], size: usize, changes: &[u8], board: &mut [u8]) -> usize {
     let mut at = 0;
     let mut i = 0;
@@ -44,27 +45,27 @@ fn build(base: &[u8], size: usize, changes: &[u8], board: &mut [u8]) -> usize {
 }
 
 // Makes the payload the base.
-pub(crate) fn load(case: Record, space: &[u8], base: &mut [u8; 65568]) {
+pub(crate) fn load(case: Record, space: &[u8], base: &mut [u8; 65600]) {
     let count = case.w7 as usize;
     print::length(b"base ", count);
     copy(space, 0, count, base, 0);
 }
 
-// Calls the operation of a case with its board. Argument 6 is the length of the set, which the payload has before the changes.
-pub(crate) fn run(case: Record, round: u32, space: &[u8], base: &[u8]) {
+// Calls the operation of a case with its board or chain. Argument 6 is the length of the set, which the payload has before the changes.
+pub(crate) fn run(case: Record, round: u32, space: &[u8], base: &[u8], built: &mut [u8; 65600]) {
     if case.w7 < case.w6 {
         return print::no_case();
     }
     let from = case.w6 as usize;
     let changes = payload::part(space, from, (case.w7 - case.w6) as usize);
-    // The longest board has one record too many.
-    let mut space_of_board = [0u8; 65568];
-    let length = build(base, case.w5 as usize, changes, &mut space_of_board);
-    let board = payload::part(&space_of_board, 0, length);
+    let length = build(base, case.w5 as usize, changes, built);
+    let board = payload::part(&built[..], 0, length);
     let operation = case.w0;
     match operation {
         11 => lines::check(case, round, board),
         12 => lines::part(case, round, board),
+        17 => chains::judge(board),
+        18 => chains::extend(case, board),
         _ => draw_text::run(payload::part(space, 0, from), board),
     }
 }

@@ -3,6 +3,7 @@
 // A case has a header of eight words: the operation's number, six arguments and the payload's length in bytes.
 // The payload follows.
 mod boards;
+mod chains;
 mod degree;
 mod digest;
 mod draw_text;
@@ -31,7 +32,13 @@ fn read_payload(space: &mut [u8], count: usize) -> bool {
 }
 
 // Calls the operation of a case with its payload, in the round of that number.
-fn run(case: Record, round: u32, space: &mut [u8], base: &mut [u8; 65568]) {
+fn run(
+    case: Record,
+    round: u32,
+    space: &mut [u8],
+    base: &mut [u8; 65600],
+    built: &mut [u8; 65600],
+) {
     let operation = case.w0;
     match operation {
         1 => digest::run(case, space),
@@ -44,10 +51,11 @@ fn run(case: Record, round: u32, space: &mut [u8], base: &mut [u8; 65568]) {
         8 => judge_dealing::run(case, round, space),
         9 => write_share::run(case, round, space),
         10 => judge_share::run(case, round, space),
-        11..=13 => boards::run(case, round, space, base),
+        11..=13 => boards::run(case, round, space, base, built),
         14 => boards::load(case, space, base),
         15 => pick_plots::run(case),
         16 => print::length(b"round ", round as usize),
+        17..=18 => boards::run(case, round, space, base, built),
         _ => print::no_case(),
     }
 }
@@ -58,30 +66,36 @@ fn round_of(case: Record, before: u32) -> u32 {
 }
 
 // Replays one case. False at the end of the input, and after a case that cannot be read.
-fn replay(base: &mut [u8; 65568], round: &mut u32) -> bool {
+fn replay(
+    space: &mut [u8; 65600],
+    base: &mut [u8; 65600],
+    built: &mut [u8; 65600],
+    round: &mut u32,
+) -> bool {
     let mut header = [0u8; 32];
     let got = io::read_full(STDIN_FILENO, &mut header);
     if got == 0 {
         return false;
     }
     let case = words::read_record(&header);
-    // The longest payload is a board with one record too many.
-    let mut space = [0u8; 65568];
-    if got < 32 || !read_payload(&mut space, case.w7 as usize) {
+    if got < 32 || !read_payload(space, case.w7 as usize) {
         print::no_case();
         return false;
     }
     *round = round_of(case, *round);
-    run(case, *round, &mut space, base);
+    run(case, *round, space, base, built);
     true
 }
 
 // The turns are counted, since nothing says that the input ends.
 fn main() {
-    let mut base = [0u8; 65568];
+    // The payload, the base, and what is built from them. The longest of each is a chain with one link too many.
+    let mut space = [0u8; 65600];
+    let mut base = [0u8; 65600];
+    let mut built = [0u8; 65600];
     let mut round = 0;
     let mut turns = u32::MAX;
-    while turns > 0 && replay(&mut base, &mut round) {
+    while turns > 0 && replay(&mut space, &mut base, &mut built, &mut round) {
         turns -= 1;
     }
 }

@@ -4,6 +4,7 @@
 mod answer;
 mod bench;
 mod board;
+mod chain;
 mod dealing;
 mod definitions;
 mod draw;

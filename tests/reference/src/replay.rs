@@ -3,6 +3,7 @@
 
 use crate::answer::Answer;
 use crate::board::{dealer_lines, lines_check};
+use crate::chain::{extend_chain, judge_chain};
 use crate::dealing::{judge_dealing, write_dealing};
 use crate::draw;
 use crate::equality::{equality, Equality};
@@ -13,9 +14,8 @@ use crate::round::Figures;
 use crate::sha256::{digest, sha256};
 use crate::share::{judge_share, write_share};
 use crate::sharing::{degree_check, opening, recovery};
-use crate::vectors::boards::applied;
-use crate::vectors::bytes;
-use crate::vectors::pick_plots::lent;
+use crate::vectors::splices::applied;
+use crate::vectors::{bytes, chains, pick_plots::lent};
 use crate::Done;
 use std::error::Error;
 use std::io::Write;
@@ -94,6 +94,8 @@ fn run(case: &Case, base: &[u8], out: &mut impl Write) -> Done {
         14 => print_length(out, b"base ", base.len()),
         15 => run_pick_plots(case, out),
         16 => print_length(out, b"round ", case.arguments[0] as usize),
+        17 => run_judge_chain(case, base, out),
+        18 => run_extend_chain(case, base, out),
         _ => Err("no case".into()),
     }
 }
@@ -281,14 +283,20 @@ fn run_judge_share(case: &Case, out: &mut impl Write) -> Done {
     print_value(out, b"judge_share ", answer)
 }
 
+/// What changes make of the base's first bytes, so many as the fifth argument says.
+fn changed(case: &Case, base: &[u8], changes: &[u8]) -> Read<Vec<u8>> {
+    let taken = base.get(..case.arguments[4] as usize).ok_or("no case")?;
+    Ok(applied(taken, changes))
+}
+
 fn run_lines_check(case: &Case, base: &[u8], out: &mut impl Write) -> Done {
-    let board = applied(base, case.payload);
+    let board = changed(case, base, case.payload)?;
     let answer = lines_check(figures(case), case.arguments[3], &board);
     print_check(out, b"lines_check ", answer)
 }
 
 fn run_lines(case: &Case, base: &[u8], out: &mut impl Write) -> Done {
-    let board = applied(base, case.payload);
+    let board = changed(case, base, case.payload)?;
     let lines = dealer_lines(figures(case), case.arguments[3], &board);
     out.write_all(b"lines ")?;
     print_number(out, lines.len())?;
@@ -299,7 +307,7 @@ fn run_lines(case: &Case, base: &[u8], out: &mut impl Write) -> Done {
 fn run_text(case: &Case, base: &[u8], out: &mut impl Write) -> Done {
     let mut rest = case.payload;
     let set = part(&mut rest, case.arguments[5] as usize)?;
-    let text = draw::text(set, &applied(base, rest));
+    let text = draw::text(set, &changed(case, base, rest)?);
     print_length(out, b"text ", text.len())?;
     Ok(out.write_all(text.as_bytes())?)
 }
@@ -309,6 +317,19 @@ fn run_pick_plots(case: &Case, out: &mut impl Write) -> Done {
     let mut list = lent(room);
     let answer = pick_plots(number, value, radius, total, count, &mut list);
     print_written(out, b"pick_plots ", answer, &bytes(&list))
+}
+
+fn run_judge_chain(case: &Case, base: &[u8], out: &mut impl Write) -> Done {
+    let chain = changed(case, base, case.payload)?;
+    print_check(out, b"judge_chain ", judge_chain(&chain))
+}
+
+fn run_extend_chain(case: &Case, base: &[u8], out: &mut impl Write) -> Done {
+    let [number, value, size, ..] = case.arguments;
+    let chain = changed(case, base, case.payload)?;
+    let mut link = chains::lent(size as usize);
+    let answer = extend_chain(&chain, number, value, &mut link);
+    print_written(out, b"extend_chain ", answer, &link)
 }
 
 #[cfg(test)]
@@ -326,10 +347,17 @@ mod tests {
 
     #[test]
     fn what_is_no_case() {
-        let unknown = record::bytes([[17, 0, 0, 0, 0, 0, 0, 0]]);
+        let unknown = record::bytes([[19, 0, 0, 0, 0, 0, 0, 0]]);
         let cut = record::bytes([[1, 0, 0, 0, 0, 0, 0, 1]]);
         let without_payload = record::bytes([[6, 1, 0, 0, 0, 0, 0, 0]]);
-        for input in [&unknown[..], &unknown[1..], &cut, &without_payload] {
+        let without_base = record::bytes([[17, 0, 0, 0, 0, 64, 0, 0]]);
+        for input in [
+            &unknown[..],
+            &unknown[1..],
+            &cut,
+            &without_payload,
+            &without_base,
+        ] {
             assert!(replay(input, &mut Vec::new()).is_err());
         }
     }

@@ -6,12 +6,13 @@
 //! The text has a line for each case: the operation's name, and its value or `refused` with its number. Behind the line
 //! of a case of `draw`'s text that text follows.
 //!
-//! Boards are given as changes of a base board, which a case of its own loads. The number of the round too has a case of
-//! its own: argument 1 is the round of all cases behind it that take a round's figures. Before the first it is 0. The
-//! text of `draw` has its round from the set.
+//! Boards and chains are given as changes of a base, which a case of its own loads. The number of the round too has a
+//! case of its own: argument 1 is the round of all cases behind it that take a round's figures. Before the first it is 0.
+//! The text of `draw` has its round from the set.
 
 pub mod boards;
 pub mod cases;
+pub mod chains;
 #[cfg(test)]
 mod coverage;
 mod degree;
@@ -26,6 +27,7 @@ mod power;
 mod recovery;
 mod rounds;
 pub mod sample;
+pub mod splices;
 mod write_dealing;
 mod write_share;
 
@@ -57,10 +59,10 @@ pub struct Vectors {
 }
 
 impl Vectors {
-    /// Adds a case that makes the board the base of those behind it.
-    fn load(&mut self, board: &[u8]) {
-        self.line(&BASE, &[], board, &board.len().to_string());
-        self.base = board.to_vec();
+    /// Adds a case that makes a board or a chain the base of those behind it.
+    fn load(&mut self, base: &[u8]) {
+        self.line(&BASE, &[], base, &base.len().to_string());
+        self.base = base.to_vec();
     }
 
     /// Group, n and t, the first arguments of a case that takes a round's figures. Where the last round was another, a
@@ -144,7 +146,7 @@ pub fn bytes(words: &[u32]) -> Vec<u8> {
     words.iter().flat_map(|word| word.to_be_bytes()).collect()
 }
 
-/// Every case, operation by operation, and behind these the cases of rounds other than 0.
+/// Every case, operation by operation; behind these the cases of rounds other than 0, and those on chains.
 pub fn all() -> Vectors {
     let mut vectors = Vectors::default();
     digest::add(&mut vectors);
@@ -160,6 +162,7 @@ pub fn all() -> Vectors {
     boards::add(&mut vectors);
     pick_plots::add(&mut vectors);
     rounds::add(&mut vectors);
+    chains::add(&mut vectors);
     vectors
 }
 

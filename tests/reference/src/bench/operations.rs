@@ -1,7 +1,8 @@
-//! An accepted case of each operation on the largest figures, repeated; and the same cases with a group that does not
-//! exist, which are refused at once. What the first take beyond the second is the operation.
+//! An accepted case of each operation on the largest figures, repeated; and the same cases with one argument changed, so
+//! that they are refused at once. What the first take beyond the second is the operation.
 
 use crate::answer::Answer;
+use crate::chain::{LINK, MOST};
 use crate::dealing::write_dealing;
 use crate::equality::response;
 use crate::group::{G, H};
@@ -11,6 +12,7 @@ use crate::round::{Figures, Round};
 use crate::share::write_share;
 use crate::sharing::powers_at;
 use crate::vectors::boards::posted::{any_members, is_line, Posted};
+use crate::vectors::chains::links::Chain;
 use crate::vectors::sample::{keys, list, proper};
 use crate::vectors::{buffered, bytes};
 
@@ -22,41 +24,50 @@ const MEMBER: u32 = 31;
 
 const MOST_PLOTS: u32 = 4096;
 
-/// A case: its operation's number, the arguments behind the group, and the payload.
+/// A case: its header up to the payload's length, and the payload; and the header's word that is another in a refused
+/// case, with what it is there.
 struct Case {
-    operation: u32,
-    arguments: Vec<u32>,
+    header: Vec<u32>,
     payload: Vec<u8>,
+    fault: (usize, u32),
 }
 
 impl Case {
     /// A case of an operation whose next arguments are n and t.
     fn of(operation: u32, arguments: &[u32], payload: Vec<u8>) -> Case {
+        let arguments = [&[LARGEST.n, LARGEST.t], arguments].concat();
+        Case::in_group(operation, &arguments, payload)
+    }
+
+    /// A case of an operation whose first argument is the group. There is no group 0.
+    fn in_group(operation: u32, arguments: &[u32], payload: Vec<u8>) -> Case {
         Case {
-            operation,
-            arguments: [&[LARGEST.n, LARGEST.t], arguments].concat(),
+            header: [&[operation, LARGEST.number], arguments].concat(),
             payload,
+            fault: (1, 0),
         }
     }
 
-    /// The case's bytes, with this group.
-    fn bytes(&self, number: u32) -> Vec<u8> {
-        let mut header = [0; 8];
-        header[0] = self.operation;
-        header[1] = number;
-        header[2..7][..self.arguments.len()].copy_from_slice(&self.arguments);
-        header[7] = self.payload.len() as u32;
-        [&record::bytes([header])[..], &self.payload].concat()
+    /// The bytes of the accepted case, and of the refused one.
+    fn bytes(&self) -> [Vec<u8>; 2] {
+        let mut accepted = [0; 8];
+        accepted[..self.header.len()].copy_from_slice(&self.header);
+        accepted[7] = self.payload.len() as u32;
+        let (word, wrong) = self.fault;
+        let mut refused = accepted;
+        refused[word] = wrong;
+        [accepted, refused].map(|header| [&record::bytes([header])[..], &self.payload].concat())
     }
 }
 
 /// Files of so many accepted cases of an operation, and of so many refused ones. None where there is no such operation.
 pub fn files(name: &str, count: usize) -> Option<[(&'static str, Vec<u8>); 2]> {
     let (load, case) = case(name)?;
-    let repeated = |number| [load.clone(), case.bytes(number).repeat(count)].concat();
+    let [accepted, refused] = case.bytes();
+    let repeated = |case: Vec<u8>| [&load[..], &case.repeat(count)].concat();
     Some([
-        ("accepted", repeated(LARGEST.number)),
-        ("refused", repeated(0)),
+        ("accepted", repeated(accepted)),
+        ("refused", repeated(refused)),
     ])
 }
 
@@ -80,6 +91,8 @@ fn case(name: &str) -> Option<(Vec<u8>, Case)> {
         "lines_check" => return Some(lines(11, |_| false, numbers)),
         "lines" => return Some(lines(12, |_| false, numbers)),
         "line" => return Some(lines(12, |member| member != MEMBER, numbers)),
+        "judge_chain" => return Some(chain(17, &[0, 0, 0], numbers)),
+        "extend_chain" => return Some(chain(18, &[LARGEST.number, H, LINK as u32], numbers)),
         _ => return None,
     };
     Some((Vec::new(), case))
@@ -88,11 +101,8 @@ fn case(name: &str) -> Option<(Vec<u8>, Case)> {
 /// The largest exponent, which gives the inverse. This is printed with one digit, as the number of the refusal is.
 fn power(round: &Round) -> Case {
     let largest = round.group.q - 1;
-    Case {
-        operation: 2,
-        arguments: vec![round.group.power(H, largest), largest],
-        payload: Vec::new(),
-    }
+    let base = round.group.power(H, largest);
+    Case::in_group(2, &[base, largest], Vec::new())
 }
 
 fn degree(round: &Round, numbers: &mut Numbers) -> Case {
@@ -124,11 +134,8 @@ fn equality(round: &Round, numbers: &mut Numbers) -> Case {
     let [x1, x2] = bases.map(|base| group.power(base, exponent));
     let [a1, a2] = bases.map(|base| group.power(base, nonce));
     let r = response(group, nonce, challenge, exponent);
-    Case {
-        operation: 6,
-        arguments: Vec::new(),
-        payload: bytes(&[bases[0], x1, bases[1], x2, a1, a2, challenge, r]),
-    }
+    let payload = bytes(&[bases[0], x1, bases[1], x2, a1, a2, challenge, r]);
+    Case::in_group(6, &[], payload)
 }
 
 fn write_dealing_case(round: &Round, numbers: &mut Numbers) -> Case {
@@ -189,11 +196,8 @@ fn judge_share(round: &Round, numbers: &mut Numbers) -> Case {
 /// So many of the most plots. A refused case has a list of the same length, which is printed too.
 fn pick_plots(round: &Round, count: u32, numbers: &mut Numbers) -> Case {
     let value = round.group.power(H, numbers.below(round.group.q));
-    Case {
-        operation: 15,
-        arguments: vec![value, 15, MOST_PLOTS, count, count],
-        payload: Vec::new(),
-    }
+    let arguments = [value, 15, MOST_PLOTS, count, count];
+    Case::in_group(15, &arguments, Vec::new())
 }
 
 fn written(answer: Answer<()>) {
@@ -211,9 +215,27 @@ fn lines(
     posted.remove(|record| is_line(record) && record[1] == DEALER && is_missing(record[2]));
     let board = posted.board();
     let size = board.len() as u32;
-    let load = record::bytes([[14, 0, 0, 0, 0, 0, 0, size]]);
     let case = Case::of(operation, &[DEALER, size], Vec::new());
-    ([load, board].concat(), case)
+    (loaded(&board), case)
+}
+
+/// A case with this base.
+fn loaded(base: &[u8]) -> Vec<u8> {
+    let header = record::bytes([[14, 0, 0, 0, 0, 0, 0, base.len() as u32]]);
+    [&header[..], base].concat()
+}
+
+/// The longest chain that can be extended, of any elements. It is the base unchanged, and in a refused case the base
+/// without its last byte.
+fn chain(operation: u32, arguments: &[u32; 3], numbers: &mut Numbers) -> (Vec<u8>, Case) {
+    let chain = Chain::any([LARGEST.number; MOST - 1], numbers).bytes();
+    let size = chain.len() as u32;
+    let case = Case {
+        header: [&[operation], &arguments[..], &[0, size]].concat(),
+        payload: Vec::new(),
+        fault: (5, size - 1),
+    };
+    (loaded(&chain), case)
 }
 
 #[cfg(test)]
@@ -221,7 +243,7 @@ mod tests {
     use super::*;
     use crate::replay::replay;
 
-    const NAMES: [&str; 15] = [
+    const NAMES: [&str; 17] = [
         "power",
         "degree",
         "opening",
@@ -237,6 +259,8 @@ mod tests {
         "line",
         "pick-all",
         "pick-some",
+        "judge_chain",
+        "extend_chain",
     ];
 
     /// The lines that the cases of a file are answered by, without that of a base.
@@ -248,17 +272,20 @@ mod tests {
         lines.map(str::to_string).collect()
     }
 
-    /// The lines themselves have no number; they are none where their number is refused.
+    /// Chains are refused by 3, all others by 1. The lines themselves have no number; they are none where their number is
+    /// refused.
     #[test]
-    fn the_cases_are_accepted_and_refused_by_1() {
+    fn the_cases_are_accepted_and_refused_at_once() {
         for name in NAMES {
+            let number = if name.ends_with("_chain") { 3 } else { 1 };
+            let refusal = format!(" refused {number}");
             let [accepted, refused] = files(name, 2).unwrap().map(|(_, file)| answers(&file));
             assert!(accepted.len() == 2 && refused.len() == 2);
             for line in accepted {
                 assert!(!line.contains(" refused ") && !line.starts_with("lines 0 "));
             }
             for line in refused {
-                assert!(line.contains(" refused 1") || line.starts_with("lines 0 "));
+                assert!(line.contains(&refusal) || line.starts_with("lines 0 "));
             }
         }
     }

@@ -9,18 +9,15 @@ pub mod lines;
 pub mod played;
 pub mod posted;
 pub mod refused;
-mod splices;
 mod varied;
 
 use super::sample::rounds;
+use super::splices::splices;
 use super::{Operation, Vectors};
 use crate::draw;
 use crate::numbers::Numbers;
 use crate::round::Figures;
 use posted::Posted;
-use splices::splices;
-
-pub use splices::applied;
 
 const TEXT: Operation = Operation {
     number: 13,

@@ -1,6 +1,6 @@
 //! The cases read again, each with what it is answered.
 
-use super::boards::applied;
+use super::splices::applied;
 use crate::record::{self, SIZE};
 
 pub struct Case<'a> {
@@ -23,9 +23,10 @@ impl Case<'_> {
         &self.payload[..self.arguments[5] as usize]
     }
 
-    /// The board of a case on boards.
+    /// The board of a case on boards, or the chain of one on chains: the base's first bytes with the changes.
     pub fn board(&self) -> Vec<u8> {
-        applied(self.base, &self.payload[self.arguments[5] as usize..])
+        let taken = &self.base[..self.arguments[4] as usize];
+        applied(taken, &self.payload[self.arguments[5] as usize..])
     }
 }
 

@@ -1,5 +1,7 @@
 //! Tests that the vectors have every class of cases.
 
+mod chains;
+mod links;
 mod others;
 mod rounds;
 
@@ -57,8 +59,8 @@ fn lines(case: &Case) -> Vec<Record> {
     records.map(record::read).collect()
 }
 
-/// The list at the end of the answer to a case of picking plots.
-fn plots(case: &Case) -> Vec<u32> {
+/// The numbers at the end of the answer to a case of picking plots, or the words of a link that is written.
+fn listed(case: &Case) -> Vec<u32> {
     let (_, digits) = case.answer.rsplit_once(' ').unwrap();
     let places = (0..digits.len()).step_by(8);
     let numbers = places.map(|k| u32::from_str_radix(&digits[k..k + 8], 16).unwrap());
@@ -68,11 +70,17 @@ fn plots(case: &Case) -> Vec<u32> {
 /// The list that is picked for group, draw value, radius, N and k.
 fn picked(figures: [u32; 5]) -> Vec<u32> {
     let is_one = |case: &&Case| case.arguments[..5] == figures && case.answer.starts_with("passed");
-    plots(answered(15).find(is_one).unwrap())
+    listed(answered(15).find(is_one).unwrap())
+}
+
+/// The numbers of the checks that are not met.
+fn failed(checks: impl IntoIterator<Item = (u32, bool)>) -> Vec<u32> {
+    let failed = checks.into_iter().filter(|(_, is_met)| !is_met);
+    failed.map(|(number, _)| number).collect()
 }
 
 /// The numbers by which each operation refuses.
-const NUMBERS: [(u32, &[u32]); 12] = [
+const NUMBERS: [(u32, &[u32]); 14] = [
     (1, &[3]),
     (2, &[1, 6, 7]),
     (3, &[1, 2, 3, 6, 7, 9]),
@@ -85,6 +93,8 @@ const NUMBERS: [(u32, &[u32]); 12] = [
     (10, &[1, 2, 3, 4, 6, 7, 8, 10, 17]),
     (11, &[1, 2, 3, 4, 5, 8, 17]),
     (15, &[1, 3, 6, 15, 16]),
+    (17, &[1, 3, 4, 6, 18, 19]),
+    (18, &[1, 3, 4, 6, 18, 19]),
 ];
 
 /// Tests that the cases have every number of the operation, and one that is not refused.
@@ -313,7 +323,7 @@ fn all_of_the_most_plots() {
         let is_one = |case: &&Case| {
             case.arguments[2..] == [radius, 4096, 4096, 4096] && case.answer.starts_with("passed")
         };
-        let mut list = plots(answered(15).find(is_one).unwrap());
+        let mut list = listed(answered(15).find(is_one).unwrap());
         list.sort();
         assert!(list.into_iter().eq(1..=4096));
     }
@@ -329,6 +339,6 @@ fn radii_that_would_be_right_if_cut_and_the_largest() {
             is_proper && of_case == radius && case.answer.starts_with("refused 15 ")
         };
         let case = answered(15).find(|case| is_one(case)).unwrap();
-        assert!(plots(case).iter().all(|&number| number == 0xa5a5_a5a5));
+        assert!(listed(case).iter().all(|&number| number == 0xa5a5_a5a5));
     }
 }

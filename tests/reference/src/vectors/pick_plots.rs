@@ -2,6 +2,7 @@
 //! with the same number in every place. The line has the list's numbers at the end, eight hexadecimal digits each.
 
 use super::faults::{singly_and_in_pairs, Fault};
+use super::sample::end_values;
 use super::{bytes, Operation, Vectors};
 use crate::group::{group, Group, G, H};
 use crate::numbers::Numbers;
@@ -107,10 +108,7 @@ fn values(vectors: &mut Vectors, number: u32, group: &Group) {
             Case::of(number, value, radius, 40, 40).add(vectors);
         }
     }
-    let p = group.p;
-    let largest = (1..p).rev().find(|&value| group.is_element(value));
-    let largest = largest.expect("1 is an element");
-    for value in [0, 1, p - G, largest, p - 1, p, p + 1, p + G, u32::MAX] {
+    for value in end_values(group) {
         Case::of(number, value, 15, 12, 5).add(vectors);
     }
 }

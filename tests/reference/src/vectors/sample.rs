@@ -77,6 +77,14 @@ pub fn keys(round: &Round, numbers: &mut Numbers) -> Vec<u32> {
     keys.collect()
 }
 
+/// Figures at the ends of the range of elements: the least and the largest element, and such as are none.
+pub fn end_values(group: &Group) -> [u32; 9] {
+    let p = group.p;
+    let largest = (1..p).rev().find(|&figure| group.is_element(figure));
+    let largest = largest.expect("1 is an element");
+    [0, 1, p - G, largest, p - 1, p, p + 1, p + G, u32::MAX]
+}
+
 /// Another element for an element. A figure that is none stays.
 pub fn other_element(group: &Group, figure: u32) -> u32 {
     if group.is_element(figure) {

@@ -4,9 +4,9 @@
 
 use super::super::faults::{in_round, Fault, InRound};
 use super::super::sample::places;
+use super::super::splices::splices;
 use super::super::{hex, passed, Operation, Vectors};
 use super::posted::{is_key, is_line, is_opening, is_share, Posted};
-use super::splices::splices;
 use crate::board::{dealer_lines, lines_check};
 use crate::record::{KEY, LINE};
 use crate::round::Figures;

@@ -232,9 +232,7 @@ fn faults(records: &[Record], k: usize, round: u32) -> Vec<u32> {
         spare == 0
     };
     let is_above = k == 0 || records[k - 1][..3] < records[k][..3];
-    let checks = [(4, is_shaped), (17, number == round), (5, is_above)];
-    let failed = checks.into_iter().filter(|(_, is_met)| !is_met);
-    failed.map(|(number, _)| number).collect()
+    failed([(4, is_shaped), (17, number == round), (5, is_above)])
 }
 
 /// The first fault of the first record that has one counts, whatever else it has, and whatever the next one has.

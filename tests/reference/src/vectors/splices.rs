@@ -1,7 +1,7 @@
-//! A board as changes of the base board. Each change has three words, the place in the base, how many of its bytes are
-//! removed there and how many are put in their place, and these bytes. Places ascend.
+//! A board or a chain as changes of the base. Each change has three words, the place in the base, how many of its bytes
+//! are removed there and how many are put in their place, and these bytes. Places ascend.
 
-use super::super::bytes;
+use super::bytes;
 use crate::record::SIZE;
 
 /// The changes that make the board of the base.

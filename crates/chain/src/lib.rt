@@ -1,0 +1,129 @@
+// The chain of seasons: each link has the draw value of a season, and a digest that hangs on the one before.
+ghost use mathlib.Core.Path.{_≡_};
+ghost use Prim.Native.Nat.{_≤_, _<_};
+ghost use lib.ListN.{length};
+ghost use Rattle.words.specs.Checks.{refusal};
+ghost use Rattle.sharing.specs.Answer.{checkOutcomeOf};
+ghost use Rattle.chain.specs.Chain.{linksIn, digestAfter, linksChecks, chainChecks, chainOutcome};
+ghost use Rattle.chain.specs.Chain.{nextLink, extendChecks, extendOutcome, lentLink};
+
+mod link;
+
+use group::Element;
+use link::link_digest;
+use link::link_record;
+use link::link_refusal;
+use link::no_digest;
+use link::value_refusal;
+use records::record_at;
+use sharing::CheckAnswer;
+use words::Record;
+use words::write_record;
+
+// The number of links.
+fn links(b: &[u8]) -> usize
+    ensures { λ r. ⌜ r ≡ linksIn (now (b .entry)) ⌝ }
+{
+    b.len() / 64
+}
+
+// What the links are refused by, one after the other: 4, 1, 6, 19 and 18. 0 where they are not.
+// Internal: callers ensure that there are at most 1,024.
+fn links_refusal(b: &[u8]) -> u32
+    requires { ⌜ linksIn (now b) ≤ 1024 ⌝ }
+    ensures { λ r. ⌜ r ≡ refusal (linksChecks (now (b .entry)) 0 (linksIn (now (b .entry)))) ⌝ }
+{
+    let all = links(b);
+    let mut before = no_digest();
+    let mut i = 0;
+    while i < all {
+        let digest = record_at(b, 2 * i + 1);
+        let refused = link_refusal(before, i as u32 + 1, record_at(b, 2 * i), digest);
+        if refused != 0 {
+            return refused;
+        }
+        before = digest;
+        i += 1;
+    }
+    0
+}
+
+// What a chain is refused by: 3 not whole links, or more than 1,024; 4, 1, 6, 19 and 18 link by link. 0 where it is not.
+fn chain_refusal(b: &[u8]) -> u32
+    ensures { λ r. ⌜ r ≡ refusal (chainChecks (now (b .entry))) ⌝ }
+{
+    if b.len() % 64 != 0 {
+        return 3;
+    }
+    if links(b) > 1024 {
+        return 3;
+    }
+    links_refusal(b)
+}
+
+// Judges a chain. Refused: 3 not whole links, or more than 1,024; then link by link 4 a spare byte is not 0; 1 no group of that number; 6
+// the draw value is no element; 19 the round is not the next; 18 the digest is wrong. A chain of no links passes.
+pub fn judge_chain(b: &[u8]) -> CheckAnswer
+    ensures { λ r. ⌜ checkOutcomeOf r ≡ chainOutcome (now (b .entry)) ⌝ }
+{
+    let refused = chain_refusal(b);
+    if refused != 0 {
+        return CheckAnswer::Refused(refused);
+    }
+    CheckAnswer::Passed
+}
+
+// What an extension is refused by: what the chain is refused by; 3 a full chain, or not the room of one link; 1 and 6 the draw value. 0
+// where it is not.
+fn extend_refusal(b: &[u8], number: u32, value: Element, room: usize) -> u32
+    ensures { λ r. ⌜ r ≡ refusal (extendChecks (now (b .entry)) number (value .0) room) ⌝ }
+{
+    let refused = chain_refusal(b);
+    if refused != 0 {
+        return refused;
+    }
+    if links(b) >= 1024 {
+        return 3;
+    }
+    if room != 64 {
+        return 3;
+    }
+    value_refusal(number, value)
+}
+
+// The digest of the last link, or what stands for it in a chain of none.
+fn last_digest(b: &[u8]) -> Record
+    ensures { λ r. ⌜ r ≡ digestAfter (now (b .entry)) (linksIn (now (b .entry))) ⌝ }
+{
+    let all = links(b);
+    if all == 0 {
+        return no_digest();
+    }
+    record_at(b, 2 * all - 1)
+}
+
+// Writes the next link. Internal: callers ensure a chain that is not full, and the room of one link.
+fn put_next(b: &[u8], number: u32, value: Element, out: &mut [u8])
+    requires { ⌜ (linksIn (now b) < 1024) × (length (now out) ≡ 64) ⌝ }
+    ensures { λ _. ⌜ now (out .exit) ≡ nextLink (now (b .entry)) number (value .0) ⌝ }
+{
+    let round = links(b) as u32 + 1;
+    let digest = link_digest(last_digest(b), value, round);
+    write_record(&mut out[..32], link_record(round, value, number));
+    write_record(&mut out[32..], digest);
+}
+
+// Extends a chain by the draw value of the next season: writes the next link, of 64 bytes, over the lent output. Refused, with the output
+// unchanged: 3, 4, 1, 6, 19 and 18 as judge_chain; 3 the chain is full, or the output is not of 64 bytes; 1 no group of that number; 6 the
+// draw value is no element.
+pub fn extend_chain(b: &[u8], number: u32, value: Element, out: &mut [u8]) -> CheckAnswer
+    ensures { λ r. ⌜ checkOutcomeOf r ≡ extendOutcome (now (b .entry)) number (value .0) (length (now (out .entry))) ⌝ }
+    ensures { λ r. ⌜ now (out .exit) ≡ lentLink (now (b .entry)) number (value .0) (now (out .entry)) ⌝ }
+{
+    let refused = extend_refusal(b, number, value, out.len());
+    if refused != 0 {
+        return CheckAnswer::Refused(refused);
+    }
+    put_next(b, number, value, out);
+    CheckAnswer::Passed
+}
