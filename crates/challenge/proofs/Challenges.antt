@@ -1,24 +1,28 @@
--- All that is used of a challenge: it is below q, and the message of a dealing is told by its members' figures.
+-- What is used of a challenge: it is below q, and the message of a dealing is told by its members' figures. Then the rule, and rounds.
 use mathlib.Core.Path.{_≡_, refl, sym, ap, _∙_}
 use mathlib.Core.Bool.{Bool, true, false}
 use mathlib.Core.List.{List, [], _∷_, _++_, append-assoc}
-use Prim.Native.Nat.{ℕ, _-_, _^_, _≤_, _<_}
+use Prim.Native.Nat.{ℕ, _-_, _%_, _^_, _≤_, _<_}
 use native.Mathlib.Nat.{mod-lt}
 use native.Mathlib.Omega.{arith}
 use borrow.Author.Tests.{eqb-true, eq-eqb}
-use lib.ListN.{length, drop, length-append}
+use lib.ListN.{length, take, drop, length-append}
 use lib.Dec.{eqb}
+use Rattle.words.specs.Choice.{pick}
 use Rattle.words.specs.Lists.{All, upFrom}
-use Rattle.words.specs.Bytes.{wordAt, wordBytes, wordsBytes}
+use Rattle.words.specs.Bytes.{wordAt, wordBytes, wordsBytes, bigEndian}
 use Rattle.words.proofs.Lists.{All-each, map-length, map-all, up-length}
-use Rattle.words.proofs.Tests.{false-true}
+use Rattle.words.proofs.Tests.{pick-true, pick-false, false-true}
 use Rattle.words.proofs.Bytes.{word-length, word-back}
+use Rattle.sha256.specs.Hash.{hash}
+use Rattle.sha256.proofs.Values.{hash-bytes}
 use Rattle.sharing.specs.Setting.{ProperSetting, members}
 use Rattle.sharing.specs.Carried.{CheckPolynomial}
 use Rattle.sharing.specs.declared.Setting.{Setting}
-use Rattle.challenge.specs.Message.{dealingTag, coefficientTag, headBytes, roundBytes, message, bytesOver, roundlessHead, roundlessMessage, exponentOf, challengeOf}
+use Rattle.challenge.specs.Exponent.{exponentOf}
+use Rattle.challenge.specs.Message.{dealingTag, coefficientTag, headBytes, roundBytes, message, bytesOver, roundlessHead, roundlessMessage, challengeOf}
 use Rattle.challenge.specs.Message.{dealingFigures, shareFigures, coefficientFigures, dealingMessage, shareMessage, coefficientMessage, checkPolynomial}
-use Rattle.challenge.specs.Claims.{ChallengeLow, RoundZero, RoundHashed}
+use Rattle.challenge.specs.Claims.{ChallengeLow, ChallengeByRule, RuleEnters, RoundZero, RoundHashed}
 use Rattle.records.proofs.Members.{each-members}
 use Rattle.challenge.proofs.Buffers.{round-none, round-some}
 
@@ -28,6 +32,21 @@ order-positive P = omega (arith, P .proper .prime-q .above-one)
 pub challenge-low : ChallengeLow
 unfolding challengeOf exponentOf
 challenge-low S P l = mod-lt _ (order-positive P)
+
+pub challenge-by-rule : ChallengeByRule
+unfolding challengeOf exponentOf
+challenge-by-rule S m =
+    let D = hash m in
+    let number : List ℕ → ℕ = λ bs. bigEndian 0 bs % S .group .q in
+    record {
+      size = hash-bytes m .0;
+      new = λ e. ap number (pick-true (S .whole) D (take 8 D) e);
+      old = λ e. ap number (pick-false (S .whole) D (take 8 D) e);
+    }
+
+pub rule-enters : RuleEnters
+unfolding exponentOf
+rule-enters S T e f D = λ j. bigEndian 0 (pick (f j) D (take 8 D)) % e j
 
 -- the judge's own coefficients are challenges
 pub check-polynomial : (S : Setting) → ProperSetting S → (d : ℕ) (v Y : ℕ → ℕ) → CheckPolynomial S (checkPolynomial S d v Y)

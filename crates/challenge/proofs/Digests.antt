@@ -1,30 +1,50 @@
--- The exponent that a digest gives, from the first two words of the hash value.
-use mathlib.Core.Path.{_≡_, sym, ap, _∙_}
-use mathlib.Core.List.{List}
+-- The exponent that a digest gives: the remainder of a number of words, worked out word by word, is that of the whole number.
+use mathlib.Core.Path.{_≡_, refl, sym, ap, _∙_}
+use mathlib.Core.Bool.{true, false}
+use mathlib.Core.List.{List, [], _∷_}
 use Prim.Native.Nat.{ℕ, _+_, _*_, _%_, _^_, _<_}
+use native.Mathlib.Nat.{mod-mod, mod-add-mod}
 use native.Mathlib.Omega.{arith}
 use lib.ListN.{take}
 use Rattle.words.specs.Bytes.{wordBytes, wordsBytes, bigEndian, recordBytes}
 use Rattle.words.specs.declared.Record.{Record}
 use Rattle.words.proofs.Bytes.{word-number}
-use Rattle.sha256.specs.Hash.{hashValue, hash}
-use Rattle.sha256.specs.Answer.{outcomeOf, digestOutcome}
-use Rattle.sha256.specs.declared.DigestAnswer.{DigestAnswer}
-use Rattle.sha256.specs.declared.DigestAnswer.the-variants.{Value}
-use Rattle.sha256.proofs.Values.{hash-words, answer-value}
-use Rattle.challenge.specs.Message.{exponentOf}
+use Rattle.words.proofs.Tests.{pick-true, pick-false}
+use Rattle.field.proofs.Modular.{mul-mod-left}
+use Rattle.sharing.specs.declared.Setting.{Setting}
+use Rattle.challenge.specs.Exponent.{exponentOf, lastWords, remainderBehind}
+use Rattle.challenge.specs.Claims.{WordByWord}
 
-first-words : (r : Record) → r .w0 < 2 ^ 32 → r .w1 < 2 ^ 32 → bigEndian 0 (take 8 (recordBytes r)) ≡ r .w0 * 4294967296 + r .w1
-unfolding recordBytes wordsBytes wordBytes
-first-words r h k =
-    let e : 0 * 4294967296 + r .w0 ≡ r .w0 = omega arith in
-    word-number _ (r .w1) k ∙ ap (λ (x : ℕ). x * 4294967296 + r .w1) (word-number 0 (r .w0) h ∙ e)
+-- a number with bytes behind it has the remainder of what its own remainder has with them
+behind-remainder : (q a : ℕ) (bs : List ℕ) → bigEndian (a % q) bs % q ≡ bigEndian a bs % q
+behind-remainder q a [] = mod-mod a q
+behind-remainder q a (b ∷ bs) =
+    let byte = sym (mod-add-mod (a % q * 256) q b) ∙ ap (λ (x : ℕ). (x + b) % q) (mul-mod-left a 256 q) ∙ mod-add-mod (a * 256) q b in
+    sym (behind-remainder q (a % q * 256 + b) bs) ∙ ap (λ (x : ℕ). bigEndian x bs % q) byte ∙ behind-remainder q (a * 256 + b) bs
 
--- what the answer of a digest gives
-pub exponent-value : (q : ℕ) (m : List ℕ) {a : DigestAnswer} → outcomeOf a ≡ digestOutcome m → {r : Record} → a ≡ Value r
-    → (r .w0 * 4294967296 + r .w1) % q ≡ exponentOf q (hash m)
-unfolding exponentOf hash
-exponent-value q m o {r} f =
-    let l = hash-words m in
-    ap (λ (s : Record). (s .w0 * 4294967296 + s .w1) % q) (sym (answer-value m o f))
-    ∙ ap (λ (x : ℕ). x % q) (sym (first-words (hashValue m) (l .0) (l .1 .0)))
+pub word-by-word : WordByWord
+unfolding wordsBytes wordBytes
+word-by-word q a [] = refl
+word-by-word q a (w ∷ ws) =
+    ap (λ (r : ℕ). remainderBehind q r ws) (behind-remainder q a (wordBytes w)) ∙ word-by-word q (bigEndian a (wordBytes w)) ws
+
+-- ---- a digest of the words of r: the first two as a number, and then the others
+module _ (S : Setting) (r : Record) (word : r .w0 < 2 ^ 32) where
+  first-word : bigEndian 0 (wordBytes (r .w0)) ≡ r .w0
+  first-word = word-number 0 (r .w0) word ∙ omega arith
+
+  pub old-exponent : S .whole ≡ false → bigEndian (r .w0) (wordBytes (r .w1)) % S .group .q ≡ exponentOf S (recordBytes r)
+  unfolding exponentOf recordBytes wordsBytes wordBytes
+  old-exponent e =
+      let D = recordBytes r in
+      ap (λ (x : ℕ). bigEndian x (wordBytes (r .w1)) % S .group .q) (sym first-word)
+      ∙ ap (λ (bs : List ℕ). bigEndian 0 bs % S .group .q) (sym (pick-false (S .whole) D (take 8 D) e))
+
+  pub new-exponent : S .whole ≡ true
+      → remainderBehind (S .group .q) (bigEndian (r .w0) (wordBytes (r .w1)) % S .group .q) (lastWords r) ≡ exponentOf S (recordBytes r)
+  unfolding exponentOf recordBytes wordsBytes wordBytes
+  new-exponent e =
+      let D = recordBytes r in
+      word-by-word (S .group .q) (bigEndian (r .w0) (wordBytes (r .w1))) (lastWords r)
+      ∙ ap (λ (x : ℕ). bigEndian (bigEndian x (wordBytes (r .w1))) (wordsBytes (lastWords r)) % S .group .q) (sym first-word)
+      ∙ ap (λ (bs : List ℕ). bigEndian 0 bs % S .group .q) (sym (pick-true (S .whole) D (take 8 D) e))

@@ -2,3 +2,4 @@
 pub mod Buffers
 pub mod Digests
 pub mod Challenges
+pub mod Figures

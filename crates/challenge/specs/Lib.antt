@@ -1,3 +1,4 @@
--- Hashed messages, challenges, and what is claimed of these.
+-- Exponents of digests, hashed messages, challenges, and what is claimed of these.
+pub mod Exponent
 pub mod Message
 pub mod Claims

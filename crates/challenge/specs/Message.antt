@@ -1,14 +1,14 @@
--- The hashed messages, and the exponent that a digest gives.
+-- The hashed messages, and their challenges.
 use mathlib.Core.List.{List, [], _∷_, _++_}
-use Prim.Native.Nat.{ℕ, _-_, _%_}
-use lib.ListN.{take}
+use Prim.Native.Nat.{ℕ, _-_}
 use lib.Dec.{eqb}
 use Rattle.words.specs.Choice.{pick}
 use Rattle.words.specs.Lists.{map, upFrom}
-use Rattle.words.specs.Bytes.{wordBytes, wordsBytes, bigEndian}
+use Rattle.words.specs.Bytes.{wordBytes, wordsBytes}
 use Rattle.sha256.specs.Hash.{hash}
 use Rattle.sharing.specs.Setting.{members}
 use Rattle.sharing.specs.declared.Setting.{Setting}
+use Rattle.challenge.specs.Exponent.{exponentOf}
 
 -- ---- what a message is of
 abbrev pub dealingTag : ℕ
@@ -66,13 +66,9 @@ abbrev pub roundlessMessage : ℕ → Setting → ℕ → List ℕ → List ℕ
 roundlessMessage tag S d rest = roundlessHead tag S d ++ rest
 
 -- ---- challenges
--- the exponent that a digest gives: its first 8 bytes as a number, modulo q
-unfoldable pub exponentOf : ℕ → List ℕ → ℕ
-exponentOf q D = bigEndian 0 (take 8 D) % q
-
 -- the challenge of a message
 unfoldable pub challengeOf : Setting → List ℕ → ℕ
-challengeOf S m = exponentOf (S .group .q) (hash m)
+challengeOf S m = exponentOf S (hash m)
 
 -- the judge's own check polynomial, of n - t coefficients
 unfoldable pub checkPolynomial : Setting → ℕ → (ℕ → ℕ) → (ℕ → ℕ) → List ℕ

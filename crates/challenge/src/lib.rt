@@ -1,4 +1,5 @@
 // The hashed messages, and the exponents that their digests give.
+mod exponent;
 mod message;
 
 use group::Element;

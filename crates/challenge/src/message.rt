@@ -1,16 +1,16 @@
-// The hashed messages, and the exponents that their digests give.
+// The hashed messages, and their challenges.
 ghost use mathlib.Core.Path.{_≡_};
 ghost use mathlib.Core.List.{[], _∷_};
-ghost use Prim.Native.Nat.{_+_, _*_, _<_, _≤_};
+ghost use Prim.Native.Nat.{_+_, _≤_};
 ghost use lib.ListN.{length, take};
 ghost use Rattle.words.specs.Lists.{filled};
 ghost use Rattle.words.specs.Bytes.{wordsBytes, putAt};
-ghost use Rattle.sha256.specs.Hash.{hash};
 ghost use Rattle.sharing.specs.Setting.{ProperSetting};
 ghost use Rattle.records.specs.Layout.{entry};
-ghost use Rattle.challenge.specs.Message.{coefficientTag, roundBytes, headBytes, exponentOf, challengeOf};
+ghost use Rattle.challenge.specs.Message.{coefficientTag, roundBytes, headBytes, challengeOf};
 ghost use Rattle.challenge.specs.Message.{dealingMessage, shareMessage, coefficientMessage, checkPolynomial};
 use crate::ShareFigures;
+use crate::exponent::exponent_of;
 use group::Exponent;
 use sha256::DigestAnswer;
 use sharing::Setting;
@@ -21,17 +21,16 @@ pub const SHARE_TAG: u8 = 0x53;
 
 const COEFFICIENT_TAG: u8 = 0x50;
 
-// The first 8 bytes of the digest of the first k bytes of m, as a number, modulo q.
-// Internal: callers ensure that q is not 0, that the bytes are there and that a digest is not refused.
-fn challenge(q: u32, m: &[u8], k: usize) -> Exponent
-    requires { ⌜ (0 < q) × (k ≤ length (now m)) × (k ≤ 65536) ⌝ }
-    ensures { λ r. ⌜ r .0 ≡ exponentOf q (hash (take k (now (m .entry)))) ⌝ }
+// The challenge of the first k bytes of m.
+// Internal: callers ensure a proper setting, that the bytes are there and that a digest is not refused.
+fn challenge(s: Setting, m: &[u8], k: usize) -> Exponent
+    requires { ⌜ (ProperSetting s) × (k ≤ length (now m)) × (k ≤ 65536) ⌝ }
+    ensures { λ r. ⌜ r .0 ≡ challengeOf s (take k (now (m .entry))) ⌝ }
 {
     let DigestAnswer::Value(d) = sha256::digest(&m[..k]) else {
         return Exponent(0);
     };
-    let first = d.w0 as u64 * 4294967296 + d.w1 as u64;
-    Exponent((first % (q as u64)) as u32)
+    exponent_of(s, d)
 }
 
 // Writes the round's number from `at` on, nothing in round 0, and answers where it ends. Internal: callers ensure room for it.
@@ -101,7 +100,7 @@ pub fn dealing_challenge(
         put_four(&mut m, at + 16 * i, vs[i], encrypted[i], a1s[i], a2s[i]);
         i += 1;
     }
-    challenge(s.group.q, &m, at + 16 * n)
+    challenge(s, &m, at + 16 * n)
 }
 
 // The challenge of an opened share of a member, under a tag: over y, Y, the opened share, a1 and a2.
@@ -115,7 +114,7 @@ pub fn share_challenge(s: Setting, tag: u8, f: ShareFigures) -> Exponent
     m[at] = f.member as u8;
     put_four(&mut m, at + 1, f.y.0, f.encrypted.0, f.decrypted.0, f.a1.0);
     words::put_word(&mut m, at + 17, f.a2.0);
-    challenge(s.group.q, &m, at + 21)
+    challenge(s, &m, at + 21)
 }
 
 // Writes the message of the coefficient 0 of the judge's own check polynomial, v and Y of every line, and answers where the byte 0
@@ -158,7 +157,7 @@ pub fn check_polynomial(s: Setting, d: u32, vs: &[u32; 31], encrypted: &[u32; 31
     let mut k = 0;
     while k < count {
         m[at] = k as u8;
-        ds[k] = challenge(s.group.q, &m, end).0;
+        ds[k] = challenge(s, &m, end).0;
         k += 1;
     }
     ds

@@ -11,13 +11,14 @@ use Rattle.sha256.specs.Hash.{later, W, schedule, T₁, T₂, round, rounds, pl
 use Rattle.group.specs.Power.{pow}
 use Rattle.group.specs.Table.{groupOf}
 use Rattle.group.specs.Element.{isElement, isExponent}
-use Rattle.sharing.specs.Setting.{isMember}
+use Rattle.sharing.specs.Setting.{takesWhole, isMember}
 use Rattle.sharing.specs.Weights.{gapsAt, weightAt, weightsOf, powersProduct}
 use Rattle.sharing.specs.Answer.{degreeProduct}
 use Rattle.sharing.specs.Figures.{small}
 use Rattle.records.specs.Layout.{agrees, entry, recordAt}
 use Rattle.records.specs.Keys.{isKey, keyChecks}
-use Rattle.challenge.specs.Message.{roundBytes, headBytes, bytesOver, exponentOf, challengeOf, dealingMessage, shareMessage, coefficientMessage, checkPolynomial}
+use Rattle.challenge.specs.Exponent.{exponentOf}
+use Rattle.challenge.specs.Message.{roundBytes, headBytes, bytesOver, challengeOf, dealingMessage, shareMessage, coefficientMessage, checkPolynomial}
 use Rattle.equality.specs.Equality.{announced}
 use Rattle.dealing.specs.Dealing.{addressChecks, vIn, YIn, rIn, cIn, judgeSizeChecks, isLineFor, lineChecks, dealingFormChecks, recomputed, rangeChecks, equationChecks, judgeDealingIn}
 use Rattle.share.specs.Share.{membersChecks, shareRecomputed, shareInputChecks, shareFormChecks, shareAdmissionChecks, shareFigureChecks, judgeShareIn}
@@ -41,5 +42,5 @@ pub record Answers : Type 0 where
   pub forged : Share 1 8 4 6 2 4
 
 pub answers : Answers
-unfolding wordAt wordBytes wordsBytes recordBytes recordIn add mul sub inv K initial zeroBits bits64 pad blocks block later W schedule T₁ T₂ round rounds plus compress intermediate hashValue hash pow groupOf isElement isExponent isMember gapsAt weightAt weightsOf powersProduct degreeProduct agrees entry recordAt isKey keyChecks roundBytes headBytes bytesOver exponentOf challengeOf dealingMessage shareMessage coefficientMessage checkPolynomial announced addressChecks vIn YIn rIn cIn judgeSizeChecks isLineFor lineChecks dealingFormChecks recomputed rangeChecks equationChecks judgeDealingIn membersChecks shareRecomputed shareInputChecks shareFormChecks shareAdmissionChecks shareFigureChecks judgeShareIn
+unfolding wordAt wordBytes wordsBytes recordBytes recordIn add mul sub inv K initial zeroBits bits64 pad blocks block later W schedule T₁ T₂ round rounds plus compress intermediate hashValue hash pow groupOf takesWhole isElement isExponent isMember gapsAt weightAt weightsOf powersProduct degreeProduct agrees entry recordAt isKey keyChecks roundBytes headBytes bytesOver exponentOf challengeOf dealingMessage shareMessage coefficientMessage checkPolynomial announced addressChecks vIn YIn rIn cIn judgeSizeChecks isLineFor lineChecks dealingFormChecks recomputed rangeChecks equationChecks judgeDealingIn membersChecks shareRecomputed shareInputChecks shareFormChecks shareAdmissionChecks shareFigureChecks judgeShareIn
 answers = record { first = refl; uncarried = refl; second = refl; share-1 = refl; share-2 = refl; share-3 = refl; forged = refl }

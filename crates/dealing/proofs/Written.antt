@@ -1,7 +1,7 @@
 -- A written dealing: it reads back line by line, its polynomial carries it, and it is accepted with the same keys.
 -- Each line's response gives back the announcements of its nonce, so the challenge is recomputed over the same message.
 use mathlib.Core.Path.{_≡_, sym, ap, _∙_, subst}
-use mathlib.Core.Bool.{true}
+use mathlib.Core.Bool.{Bool, true}
 use mathlib.Core.List.{List, _++_}
 use Prim.Native.Nat.{ℕ, _*_, _^_, _≤_, _<_}
 use native.Mathlib.Omega.{arith}
@@ -179,13 +179,13 @@ module _ (S : Setting) (P : ProperSetting S) (word : S .round < 2 ^ 32) (d : ℕ
         challenge = λ i h l. c-is i h l ∙ sym recomputed-is;
       }
 
-  -- in the round of another number
-  pub refused-elsewhere : (round : ℕ) → (round ≡ S .round → ⊥) → judgeDealingIn (inRound round S) d ys bytes ≡ refused 17
+  -- in the round of another number, under either rule
+  pub refused-elsewhere : (round : ℕ) → (round ≡ S .round → ⊥) → (whole : Bool) → judgeDealingIn (inRound round whole S) d ys bytes ≡ refused 17
   unfolding addressChecks judgeSizeChecks lineChecks
-  refused-elsewhere round n =
+  refused-elsewhere round n whole =
       let some = P .n-positive in
       let F = posted-formed S d ys bytes (written-accepted .posted) in
-      dealing-of-other-round (inRound round S) d ys bytes
+      dealing-of-other-round (inRound round whole S) d ys bytes
       (member-exactly (S .n) d .1 (F .dealer), (true-equal (length ys) (S .n) (length bytes) (32 * S .n) (F .keys-size) (F .size), tt))
       (F .keys) (F .lines .0) 1 (omega arith) (omega arith) (λ e. n (sym e ∙ line-proper 1 (omega arith) (omega arith) .round))
 
@@ -202,8 +202,8 @@ pub written-carried : WrittenCarried
 written-carried S P k d ys f ws e = carries S P k d ys f ws (value-writable S d ys f ws _ e)
 
 pub same-commitments : SameCommitments
-same-commitments S P k d ys f ws e round h us g =
-    written-carried S P k d ys f ws e .powers ∙ sym (written-carried (inRound round S) (proper-in-round round P) h d ys f us g .powers)
+same-commitments S P k d ys f ws e round h whole us g =
+    written-carried S P k d ys f ws e .powers ∙ sym (written-carried (inRound round whole S) (proper-in-round round whole P) h d ys f us g .powers)
 
 -- ---- the lent bytes
 pub lent-dealing : LentDealing
@@ -239,4 +239,14 @@ dealing-by-round R =
       judged-in = λ m d ys b. judged-in R (λ S. judgeDealingChecks S d ys b) (λ S. tt) m;
       written-in = λ m d ys f ws room. judged-in R (λ S. writeDealingChecks S d ys f ws room) (λ S. tt) m;
       lent-in = λ m d ys f ws out. judged-else-in R (λ S. writeDealingChecks S d ys f ws (length out)) (λ S. writtenDealing S d ys f ws) m out;
+      complete = complete;
     }
+  where
+    complete : R .round < 2 ^ 32 → (d : ℕ) (ys f ws out : List ℕ) → writeDealingOutcome R d ys f ws (length out) ≡ value tt
+        → judgeDealingOutcome R d ys (lentDealing R d ys f ws out) ≡ value tt
+    complete k d ys f ws out e =
+        let w = judged-exactly R (λ S. writeDealingChecks S d ys f ws (length out)) (λ S. tt) tt .0 e in
+        let lent = judged-else-in R (λ S. writeDealingChecks S d ys f ws (length out)) (λ S. writtenDealing S d ys f ws) (w .0) out in
+        judged-in R (λ S. judgeDealingChecks S d ys (lentDealing R d ys f ws out)) (λ S. tt) (w .0)
+        ∙ ap (judgeDealingIn (settingIn R) d ys) lent
+        ∙ lent-dealing (settingIn R) (round-proper R (w .0)) k d ys f ws out (w .1)

@@ -1,7 +1,7 @@
 -- What is claimed of dealings, judged and written: demand 2 for what a dealer posts, and what it gives demand 3. Each claim is over a
 -- setting; DealingByRound reads them off for a round.
 use mathlib.Core.Path.{_≡_}
-use mathlib.Core.Bool.{true}
+use mathlib.Core.Bool.{Bool, true}
 use mathlib.Core.List.{List, _++_}
 use mathlib.Core.Logic.{_↔_}
 use Prim.Native.Nat.{ℕ, _*_, _^_, _<_, _≤_}
@@ -97,11 +97,12 @@ DealingComplete =
     (S : Setting) → ProperSetting S → S .round < 2 ^ 32 → (d : ℕ) (ys f ws : List ℕ) → writeDealingIn S d ys f ws (32 * S .n) ≡ value tt
     → judgeDealingIn S d ys (writtenDealing S d ys f ws) ≡ value tt
 
--- in the round that it is written for: in every other it is refused by 17
+-- in the round that it is written for: in every other, under either rule, it is refused by 17
 abbrev pub WrittenForOtherRound : Type 0
 WrittenForOtherRound =
     (S : Setting) → ProperSetting S → S .round < 2 ^ 32 → (d : ℕ) (ys f ws : List ℕ) → writeDealingIn S d ys f ws (32 * S .n) ≡ value tt
-    → (round : ℕ) → (round ≡ S .round → ⊥) → judgeDealingIn (inRound round S) d ys (writtenDealing S d ys f ws) ≡ refused 17
+    → (round : ℕ) → (round ≡ S .round → ⊥) → (whole : Bool)
+    → judgeDealingIn (inRound round whole S) d ys (writtenDealing S d ys f ws) ≡ refused 17
 
 -- and its polynomial carries it
 abbrev pub WrittenCarried : Type 0
@@ -109,12 +110,12 @@ WrittenCarried =
     (S : Setting) → ProperSetting S → S .round < 2 ^ 32 → (d : ℕ) (ys f ws : List ℕ) → writeDealingIn S d ys f ws (32 * S .n) ≡ value tt
     → Carries S f (vsIn (S .n) (writtenDealing S d ys f ws))
 
--- one polynomial, written for two rounds, has the same commitments in both
+-- one polynomial, written for two rounds, has the same commitments in both, under whatever rules
 abbrev pub SameCommitments : Type 0
 SameCommitments =
     (S : Setting) → ProperSetting S → S .round < 2 ^ 32 → (d : ℕ) (ys f ws : List ℕ) → writeDealingIn S d ys f ws (32 * S .n) ≡ value tt
-    → (round : ℕ) → round < 2 ^ 32 → (us : List ℕ) → writeDealingIn (inRound round S) d ys f us (32 * S .n) ≡ value tt
-    → vsIn (S .n) (writtenDealing S d ys f ws) ≡ vsIn (S .n) (writtenDealing (inRound round S) d ys f us)
+    → (round : ℕ) → round < 2 ^ 32 → (whole : Bool) (us : List ℕ) → writeDealingIn (inRound round whole S) d ys f us (32 * S .n) ≡ value tt
+    → vsIn (S .n) (writtenDealing S d ys f ws) ≡ vsIn (S .n) (writtenDealing (inRound round whole S) d ys f us)
 
 -- the lent bytes are accepted where nothing is refused
 abbrev pub LentDealing : Type 0
@@ -139,6 +140,9 @@ pub record DealingOverRound (R : Round) : Type 0 where
   pub written-in : Met (roundChecks R) → (d : ℕ) (ys f ws : List ℕ) (room : ℕ)
       → writeDealingOutcome R d ys f ws room ≡ writeDealingIn (settingIn R) d ys f ws room
   pub lent-in : Met (roundChecks R) → (d : ℕ) (ys f ws out : List ℕ) → lentDealing R d ys f ws out ≡ lentDealingIn (settingIn R) d ys f ws out
+  -- what is written is accepted by a judge that takes the same figures of the round: its number, and the first round under the new rule
+  pub complete : R .round < 2 ^ 32 → (d : ℕ) (ys f ws out : List ℕ) → writeDealingOutcome R d ys f ws (length out) ≡ value tt
+      → judgeDealingOutcome R d ys (lentDealing R d ys f ws out) ≡ value tt
 
 abbrev pub DealingByRound : Type 0
 DealingByRound = (R : Round) → DealingOverRound R

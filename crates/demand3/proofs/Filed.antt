@@ -1,5 +1,5 @@
 -- Boards filed before records had a round's number: the checks of 01 differ from those of round 0 in the number of a test that holds where
--- word 7 is 0, and the messages are the same, so both answer the same, and so do the verdicts and the draw.
+-- word 7 is 0, and the messages and their exponents are the same, so both answer the same, and so do the verdicts and the draw.
 use mathlib.Core.Path.{_≡_, refl, sym, ap, _∙_}
 use mathlib.Core.Bool.{Bool, true, false, _&&_}
 use mathlib.Core.List.{List, [], _∷_, _++_}
@@ -29,7 +29,7 @@ use Rattle.records.specs.Layout.{shareKind, dealerOf, memberOf, uOf, ZOf, share
 use Rattle.records.specs.Keys.{keyChecks}
 use Rattle.records.proofs.Members.{members-exactly}
 use Rattle.challenge.specs.Message.{shareTag, challengeOf, checkPolynomial}
-use Rattle.challenge.proofs.Challenges.{round-zero}
+use Rattle.challenge.proofs.Challenges.{challenge-by-rule, round-zero}
 use Rattle.equality.specs.Equality.{announced}
 use Rattle.dealing.specs.Dealing.{addressChecks, judgeSizeChecks, vIn, YIn, rIn, cIn, vsIn, lineChecks, dealingFormChecks, recomputed, rangeChecks, equationChecks, lineFigureChecks, judgeDealingIn}
 use Rattle.share.specs.Share.{membersChecks, shareInputChecks, shareFormChecks, shareAdmissionChecks, shareRecomputed, shareFigureChecks, judgeShareIn}
@@ -42,7 +42,7 @@ use Rattle.verdicts.specs.Verdict.{Judges, judges, dealingAnswer, shareAnswer, 
 use Rattle.verdicts.specs.Draw.{secretsProduct, drawChecks, boardProduct, drawIn}
 use Rattle.verdicts.specs.declared.Secret.the-variants.{Opened, Recovered, Stuck}
 use Rattle.verdicts.specs.declared.Verdict.the-variants.{None}
-use Rattle.demand3.specs.Filed.{filedRecordChecks, filedBoardChecks, filedLineChecks, filedEquationChecks, filedDealing, filedShareChecks, filedShareFigures, filedShare, filedJudges, filedDraw, FiledAsBefore}
+use Rattle.demand3.specs.Filed.{filedRecordChecks, filedBoardChecks, filedExponent, filedLineChecks, filedEquationChecks, filedDealing, filedShareChecks, filedShareFigures, filedShare, filedJudges, filedDraw, FiledAsBefore}
 
 -- ---- two judges that answer the same on a board give it the same verdict
 pick-same : {A : Type 0} (t : Bool) (x y z : A) → (t ≡ true → x ≡ y) → pick t x z ≡ pick t y z
@@ -76,7 +76,11 @@ module _ (J K : Judges) (S : Setting) (b : List ℕ) (d : ℕ) (share : (i : ℕ
       (pick-same (eqb (lineCount b d) (S .n)) _ _ _ (λ e j. verdictFrom (h (eqb-true (lineCount b d) (S .n) e) j) (same-secret j)))
 
 -- ---- round 0
-module _ (S : Setting) (z : S .round ≡ 0) where
+module _ (S : Setting) (z : S .round ≡ 0) (o : S .whole ≡ false) where
+  -- the exponent of a message that is one of 01
+  filed-exponent : {m n : List ℕ} → m ≡ n → challengeOf S m ≡ filedExponent S n
+  filed-exponent {m} {n} e = ap (challengeOf S) e ∙ challenge-by-rule S n .old o
+
   -- the test of word 7, which holds
   word-alike : (x : ℕ) → x ≡ 0 → (eqb x (S .round) ≡ eqb x 0) × (eqb x 0 ≡ false → _≡_ {A = ℕ} 17 4)
   word-alike x e = (ap (eqb x) z, λ f. absurd (false-true (sym f ∙ eq-eqb x 0 e)))
@@ -87,11 +91,11 @@ module _ (S : Setting) (z : S .round ≡ 0) where
   filed-equations d ys b = λ j.
       let G = S .group in
       let m = round-zero S z d in
-      let ds = map (λ k. challengeOf S (m .coefficient (vIn b) (YIn b) k j)) (upFrom 0 (S .n - S .t)) in
+      let ds = map (λ k. filed-exponent (m .coefficient (vIn b) (YIn b) k) j) (upFrom 0 (S .n - S .t)) in
       let a1 : ℕ → ℕ = λ i. announced G (G .g .0) (vIn b i) (cIn b i) (rIn b i) in
       let a2 : ℕ → ℕ = λ i. announced G (entry ys i) (YIn b i) (cIn b i) (rIn b i) in
       9 unless eqb (degreeProduct S (map (vIn b) (members (S .n))) ds) 1
-      ∷ 10 unless all (λ i. eqb (cIn b i) (challengeOf S (m .dealing (vIn b) (YIn b) a1 a2 j))) (members (S .n))
+      ∷ 10 unless all (λ i. eqb (cIn b i) (filed-exponent (m .dealing (vIn b) (YIn b) a1 a2) j)) (members (S .n))
       ∷ []
 
   filed-figures : (d i y Y : ℕ) (r : Record) → shareFigureChecks shareTag S d i y Y r ≡ filedShareFigures S d i y Y r
@@ -102,7 +106,7 @@ module _ (S : Setting) (z : S .round ≡ 0) where
       let a2 = announced G (ZOf r) Y (shareC r) (shareR r) in
       6 unless isElement G (ZOf r)
       ∷ 7 unless (isExponent G (shareC r) && isExponent G (shareR r))
-      ∷ 10 unless eqb (shareC r) (challengeOf S (round-zero S z d .share shareTag i y Y (ZOf r) a1 a2 j))
+      ∷ 10 unless eqb (shareC r) (filed-exponent (round-zero S z d .share shareTag i y Y (ZOf r) a1 a2) j)
       ∷ []
 
   filed-dealing : (d : ℕ) (ys b : List ℕ) → ((i : ℕ) → 1 ≤ i → i ≤ S .n → recordOf b i .w7 ≡ 0) → judgeDealingIn S d ys b ≡ filedDealing S d ys b
@@ -171,9 +175,9 @@ module _ (S : Setting) (z : S .round ≡ 0) where
         ∙ front-outcome (filedBoardChecks S b) (drawChecks (S .t) (verdictsOn filedJudges S b)) (u .0) first (boardProduct filedJudges S b)
 
 pub filed-as-before : FiledAsBefore
-filed-as-before S P z b w =
+filed-as-before S P z o b w =
     record {
-      before = alike-outcome (boardChecks S b) (filedBoardChecks S b) tt (board-alike S z P b w);
-      verdict = filed-verdict S z P b w;
-      draw = filed-draw S z P b w (decided (boardChecks S b));
+      before = alike-outcome (boardChecks S b) (filedBoardChecks S b) tt (board-alike S z o P b w);
+      verdict = filed-verdict S z o P b w;
+      draw = filed-draw S z o P b w (decided (boardChecks S b));
     }

@@ -14,9 +14,10 @@ use Rattle.words.proofs.Lists.{All-to, All-take, Pairwise-to, Pairwise-take, ma
 use Rattle.words.proofs.Stages.{front-outcome}
 use Rattle.field.specs.Polynomial.{valueAt}
 use Rattle.group.specs.declared.Group.{Group}
-use Rattle.sharing.specs.Setting.{ProperSetting, settingIn, inRound, roundChecks, judged, members}
+use Rattle.sharing.specs.Setting.{ProperSetting, takesWhole, settingIn, inRound, withNumbers, roundChecks, judged, members}
 use Rattle.sharing.specs.Answer.{recovered}
 use Rattle.sharing.specs.Carried.{Carries, Quorum, secretOf, powersAt}
+use Rattle.sharing.specs.declared.Round.{Round}
 use Rattle.sharing.specs.declared.Setting.{Setting}
 use Rattle.sharing.proofs.Rounds.{round-proper, proper-in-round, carries-in-round, judged-in}
 use Rattle.sharing.proofs.Secret.{recovered-secret}
@@ -30,7 +31,7 @@ use Rattle.verdicts.specs.Verdict.{Judges, isAccepted, commitmentsOf, isShareBy
 use Rattle.verdicts.specs.Draw.{secretValue, boardDrawChecks, boardProduct, drawIn, drawOn}
 use Rattle.verdicts.specs.declared.Secret.the-variants.{Stuck}
 use Rattle.verdicts.proofs.ShareAnswers.{share-address}
-use Rattle.demand3.specs.Claims.{powerOfH, recoveredFrom, acceptedDealers, productOf, SomeStuck, Recoverable, AllRecoverable, secretsOf, SameDraw, SameDrawAcross, DrawByRound}
+use Rattle.demand3.specs.Claims.{powerOfH, recoveredFrom, acceptedDealers, productOf, SomeStuck, Recoverable, AllRecoverable, secretsOf, TwoBoards, SameDraw, SameDrawAcross, DrawByRound}
 use Rattle.demand3.proofs.Sources.{Source, opened, recovers, stuck, source-of, stuck-exactly, shares-ascend}
 use Rattle.demand3.proofs.VerdictCases.{verdict-rules}
 use Rattle.demand3.proofs.Endings.{end-rules}
@@ -112,18 +113,18 @@ module _ (J : Judges) (S : Setting) (P : ProperSetting S) (b : List ℕ) (f : �
   ends-in : S .t ≤ length (acceptedDealers J S b) → drawIn J S b ≡ value (record { 0 = secretsOf J S b f })
   ends-in l = end-rules J S P b (A .reached) .drawn (record { 0 = secretsOf J S b f }) .1 (l, none-stuck, ap (productOf (S .group .p)) (sym secrets))
 
--- ---- both boards, in the setting S and in T, which is S in the round of another number
+-- ---- both boards, in the setting S and in T, which is S in the round of another number, under either rule
 pub same-draw-across : (J : Judges) → SameDrawAcross J
-same-draw-across J S P round b c f₁ f₂ A C M l = (
+same-draw-across J S P round whole b c f₁ f₂ A C M l = (
   ends-in J S P b f₁ A l,
   ends-in J T P' c f₂ C (subst (λ (ds : List ℕ). S .t ≤ length ds) same l) ∙ (λ j. value (record { 0 = sym other j })),
 )
   where
     T : Setting
-    T = inRound round S
+    T = inRound round whole S
 
     P' : ProperSetting T
-    P' = proper-in-round round P
+    P' = proper-in-round round whole P
 
     same : acceptedDealers J S b ≡ acceptedDealers J T c
     same =
@@ -133,7 +134,7 @@ same-draw-across J S P round b c f₁ f₂ A C M l = (
     secret : (d : ℕ) → 1 ≤ d → d ≤ S .n → isAccepted J S b d ≡ true → secretOf S (f₁ d) ≡ secretOf S (f₂ d)
     secret d h u a =
         secret-of-commitments S P (f₁ d) (f₂ d) (commitmentsOf S b d) (A .recoverable d h u a .carries)
-        (subst (Carries S (f₂ d)) (sym (M .commitments d h u a)) (carries-in-round round (C .recoverable d h u (sym (M .dealers d h u) ∙ a) .carries)))
+        (subst (Carries S (f₂ d)) (sym (M .commitments d h u a)) (carries-in-round round whole (C .recoverable d h u (sym (M .dealers d h u) ∙ a) .carries)))
 
     other : secretsOf J S b f₁ ≡ secretsOf J T c f₂
     other =
@@ -142,20 +143,25 @@ same-draw-across J S P round b c f₁ f₂ A C M l = (
         ap (productOf (S .group .p)) (maps ∙ ap (map (λ d. powerOfH (S .group) (secretOf S (f₂ d)))) same)
 
 pub same-draw : (J : Judges) → SameDraw J
-same-draw J S P = same-draw-across J S P (S .round)
+same-draw J S P = same-draw-across J S P (S .round) (S .whole)
 
 -- ---- over a round
 pub draw-by-round : (J : Judges) → DrawByRound J
-unfolding drawOn drawIn judged
+unfolding drawOn drawIn judged roundChecks
 draw-by-round J R =
     record {
       refuses = λ b k u. sym (front-outcome (roundChecks R) (boardDrawChecks J (settingIn R) b) k u (boardProduct J (settingIn R) b));
       proper = round-proper R;
-      draw-in = draw-in;
-      same-draw = λ m b c f₁ f₂ A C M l.
-          let d = same-draw J (settingIn R) (round-proper R m) b c f₁ f₂ A C M l in
-          (draw-in m b ∙ d .0, draw-in m c ∙ d .1);
+      draw-in = draw-in R;
+      same-draw = λ m. across m (R .round) (R .first);
+      same-draw-across = across;
     }
   where
-    draw-in : Met (roundChecks R) → (b : List ℕ) → drawOn J R b ≡ drawIn J (settingIn R) b
-    draw-in m b = judged-in R (λ S. boardDrawChecks J S b) (λ S. boardProduct J S b) m
+    draw-in : (T : Round) → Met (roundChecks T) → (b : List ℕ) → drawOn J T b ≡ drawIn J (settingIn T) b
+    draw-in T m b = judged-in T (λ S. boardDrawChecks J S b) (λ S. boardProduct J S b) m
+
+    across : Met (roundChecks R) → (round first : ℕ)
+        → TwoBoards J (settingIn R) (settingIn (withNumbers round first R)) (drawOn J R) (drawOn J (withNumbers round first R))
+    across m round first b c f₁ f₂ A C M l =
+        let d = same-draw-across J (settingIn R) (round-proper R m) round (takesWhole first round) b c f₁ f₂ A C M l in
+        (draw-in R m b ∙ d .0, draw-in (withNumbers round first R) m c ∙ d .1)

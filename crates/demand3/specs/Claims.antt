@@ -1,7 +1,7 @@
 -- What is claimed of judged boards, in every proper setting: the rules of verdicts, how a board ends, and the last sentence of demand 3.
 -- DrawByRound reads this off for rounds, as the board judge answers.
 use mathlib.Core.Path.{_≡_}
-use mathlib.Core.Bool.{true}
+use mathlib.Core.Bool.{Bool, true}
 use mathlib.Core.List.{List, [], _∷_}
 use mathlib.Core.Logic.{_⊎_, _↔_}
 use Prim.Native.Nat.{ℕ, _<_, _≤_}
@@ -13,7 +13,7 @@ use Rattle.field.specs.Polynomial.{valueAt}
 use Rattle.group.specs.Power.{pow}
 use Rattle.group.specs.declared.Element.{Element}
 use Rattle.group.specs.declared.Group.{Group}
-use Rattle.sharing.specs.Setting.{ProperSetting, settingIn, inRound, roundChecks, members}
+use Rattle.sharing.specs.Setting.{ProperSetting, settingIn, inRound, withNumbers, roundChecks, members}
 use Rattle.sharing.specs.Answer.{openingIn, recovered}
 use Rattle.sharing.specs.Carried.{Carries, secretOf}
 use Rattle.sharing.specs.declared.Round.{Round}
@@ -140,19 +140,24 @@ TwoBoards J S T draw₁ draw₂ =
 abbrev pub SameDraw : Judges → Type 0
 SameDraw J = (S : Setting) → ProperSetting S → TwoBoards J S S (drawIn J S) (drawIn J S)
 
--- two boards of two rounds: what is accepted decides the draw value, and not the round that it is accepted in
+-- two boards of two rounds, each under either rule: what is accepted decides the draw value, and neither the round that it is accepted in
+-- nor the rule by which its challenges were made
 abbrev pub SameDrawAcross : Judges → Type 0
 SameDrawAcross J =
-    (S : Setting) → ProperSetting S → (round : ℕ) → TwoBoards J S (inRound round S) (drawIn J S) (drawIn J (inRound round S))
+    (S : Setting) → ProperSetting S → (round : ℕ) (whole : Bool)
+    → TwoBoards J S (inRound round whole S) (drawIn J S) (drawIn J (inRound round whole S))
 
 -- ---- over a round
 -- what the board judge answers: it refuses a round that 1 or 2 refuses by that number. The setting of any other is proper, and the
--- board judge answers what it answers there, so F holds of its answers
+-- board judge answers what it answers there, so F holds of its answers: for two boards of the round, and for two rounds whose numbers and
+-- first rounds under the new rule are any
 pub record DrawOverRound (J : Judges) (R : Round) : Type 0 where
   pub refuses : (b : List ℕ) (k : ℕ) → FirstUnmet k (roundChecks R) → drawOn J R b ≡ refused k
   pub proper : Met (roundChecks R) → ProperSetting (settingIn R)
   pub draw-in : Met (roundChecks R) → (b : List ℕ) → drawOn J R b ≡ drawIn J (settingIn R) b
   pub same-draw : Met (roundChecks R) → TwoBoards J (settingIn R) (settingIn R) (drawOn J R) (drawOn J R)
+  pub same-draw-across : Met (roundChecks R) → (round first : ℕ)
+      → TwoBoards J (settingIn R) (settingIn (withNumbers round first R)) (drawOn J R) (drawOn J (withNumbers round first R))
 
 abbrev pub DrawByRound : Judges → Type 0
 DrawByRound J = (R : Round) → DrawOverRound J R

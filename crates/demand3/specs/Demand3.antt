@@ -1,6 +1,6 @@
 -- Demand 3 whole, sentence by sentence: A to E on one dealing's commitments, F on two boards. Each is stated over what the operations
--- answer, for every proper setting: any proper group whose figures fit a word, with any n and t in their ranges. The two last lines
--- read it off for every round that 1 and 2 do not refuse.
+-- answer, for every proper setting: any proper group whose figures fit a word, with any n and t in their ranges, in any round and under
+-- either rule. The two last lines read it off for every round that 1 and 2 do not refuse, whatever its two numbers are.
 use Rattle.sharing.specs.Claims.{AlwaysCarried, UncarriedOneValue, CarriedPasses, CarriedExactly, OpeningExactly, QuorumRecovers, RoundBySetting}
 use Rattle.verdicts.specs.Verdict.{judges}
 use Rattle.demand3.specs.Claims.{SameDraw, SameDrawAcross, DrawByRound}
@@ -22,7 +22,7 @@ pub record Demand3 : Type 0 where
   -- F. Two boards of one round with the same accepted dealings, t or more, each carried, opened or with t or more accepted shares, all of them true,
   -- end in the same draw value, the product of the h^s modulo p. The judges are those of the crates dealing and share.
   pub same-draw : SameDraw judges
-  -- F for two boards of two rounds.
+  -- F for two boards of two rounds, each under either rule.
   pub same-draw-across : SameDrawAcross judges
   -- A to E over a round: each operation answers what it answers in the round's setting, which is proper.
   pub round-by-setting : RoundBySetting

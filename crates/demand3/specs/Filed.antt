@@ -1,14 +1,17 @@
--- 01 as it was before records had a round's number: word 7 is a spare word like the others, refused by 4, and the messages have nothing of
--- the round in them. In round 0 every board that was filed with zero in each word 7 is judged as it was then.
+-- 01 as it was before records had a round's number: word 7 is a spare word like the others, refused by 4, the messages have nothing of the
+-- round in them, and their digests give exponents by 8 bytes. In round 0 every board that was filed with zero in each word 7 is judged as
+-- it was then.
 use mathlib.Core.Path.{_≡_}
-use mathlib.Core.Bool.{_&&_}
+use mathlib.Core.Bool.{false, _&&_}
 use mathlib.Core.List.{List, [], _∷_, _++_}
-use Prim.Native.Nat.{ℕ, zero, suc, _-_, _<_}
+use Prim.Native.Nat.{ℕ, zero, suc, _-_, _%_, _<_}
+use lib.ListN.{take}
 use lib.Dec.{eqb}
 use Rattle.words.specs.Lists.{all, map, upFrom}
 use Rattle.words.specs.Checks.{Check, _unless_, Outcome, outcome, Met}
-use Rattle.words.specs.Bytes.{recordIn}
+use Rattle.words.specs.Bytes.{bigEndian, recordIn}
 use Rattle.words.specs.declared.Record.{Record}
+use Rattle.sha256.specs.Hash.{hash}
 use Rattle.group.specs.Element.{isElement, isExponent}
 use Rattle.group.specs.declared.Element.{Element}
 use Rattle.group.specs.declared.Group.{Group}
@@ -17,7 +20,7 @@ use Rattle.sharing.specs.Answer.{degreeProduct}
 use Rattle.sharing.specs.declared.Setting.{Setting}
 use Rattle.records.specs.Layout.{ZOf, shareC, shareR, entry, recordAt, recordOf}
 use Rattle.records.specs.Keys.{isKey}
-use Rattle.challenge.specs.Message.{dealingTag, shareTag, coefficientTag, dealingFigures, shareFigures, coefficientFigures, roundlessMessage, challengeOf}
+use Rattle.challenge.specs.Message.{dealingTag, shareTag, coefficientTag, dealingFigures, shareFigures, coefficientFigures, roundlessMessage}
 use Rattle.equality.specs.Equality.{announced}
 use Rattle.dealing.specs.Dealing.{addressChecks, judgeSizeChecks, isLineOf, vIn, YIn, rIn, cIn, vsIn, rangeChecks}
 use Rattle.share.specs.Share.{membersChecks, shareInputChecks, isShareFor}
@@ -46,15 +49,19 @@ filedBoardChecks S b =
 abbrev pub filedLineChecks : ℕ → ℕ → List ℕ → List Check
 filedLineChecks n d b = 4 unless all (isLineOf d b) (members n) ∷ 4 unless all (λ i. eqb (recordOf b i .w7) 0) (members n) ∷ []
 
+-- the challenge of a message: the first 8 digest bytes as a number, modulo q
+abbrev pub filedExponent : Setting → List ℕ → ℕ
+filedExponent S m = bigEndian 0 (take 8 (hash m)) % S .group .q
+
 -- the judge's own check polynomial, and the challenge that the lines give
 abbrev pub filedPolynomial : Setting → ℕ → List ℕ → List ℕ
 filedPolynomial S d b =
-    map (λ k. challengeOf S (roundlessMessage coefficientTag S d (coefficientFigures (S .n) (vIn b) (YIn b) k))) (upFrom 0 (S .n - S .t))
+    map (λ k. filedExponent S (roundlessMessage coefficientTag S d (coefficientFigures (S .n) (vIn b) (YIn b) k))) (upFrom 0 (S .n - S .t))
 
 abbrev pub filedChallenge : Setting → ℕ → List ℕ → List ℕ → ℕ
 filedChallenge S d ys b =
     let G = S .group in
-    challengeOf S
+    filedExponent S
     (roundlessMessage dealingTag S d
     (dealingFigures (S .n) (vIn b) (YIn b)
     (λ i. announced G (G .g .0) (vIn b i) (cIn b i) (rIn b i)) (λ i. announced G (entry ys i) (YIn b i) (cIn b i) (rIn b i))))
@@ -82,7 +89,7 @@ filedShareFigures S d i y Y r =
     let a2 = announced G (ZOf r) Y (shareC r) (shareR r) in
     6 unless isElement G (ZOf r)
     ∷ 7 unless (isExponent G (shareC r) && isExponent G (shareR r))
-    ∷ 10 unless eqb (shareC r) (challengeOf S (roundlessMessage shareTag S d (shareFigures i y Y (ZOf r) a1 a2)))
+    ∷ 10 unless eqb (shareC r) (filedExponent S (roundlessMessage shareTag S d (shareFigures i y Y (ZOf r) a1 a2)))
     ∷ []
 
 abbrev pub filedShare : Setting → ℕ → ℕ → ℕ → ℕ → List ℕ → Outcome Element
@@ -98,7 +105,7 @@ filedJudges = record { dealing = filedDealing; share = filedShare }
 abbrev pub filedDraw : Setting → List ℕ → Outcome Element
 filedDraw S b = outcome (filedBoardChecks S b ++ drawChecks (S .t) (verdictsOn filedJudges S b)) (boardProduct filedJudges S b)
 
--- ---- the claim
+-- ---- the claim, under the old rule, which is that of round 0 whatever the first round under the new one is
 pub record FiledBoard (S : Setting) (b : List ℕ) : Type 0 where
   -- before the verdicts
   pub before : outcome (boardChecks S b) tt ≡ outcome (filedBoardChecks S b) (tt {0})
@@ -109,4 +116,5 @@ pub record FiledBoard (S : Setting) (b : List ℕ) : Type 0 where
 
 abbrev pub FiledAsBefore : Type 0
 FiledAsBefore =
-    (S : Setting) → ProperSetting S → S .round ≡ 0 → (b : List ℕ) → ((i : ℕ) → i < recordsIn b → recordAt b i .w7 ≡ 0) → FiledBoard S b
+    (S : Setting) → ProperSetting S → S .round ≡ 0 → S .whole ≡ false
+    → (b : List ℕ) → ((i : ℕ) → i < recordsIn b → recordAt b i .w7 ≡ 0) → FiledBoard S b

@@ -40,9 +40,9 @@ openingLayout d u round = record { w0 = openingKind; w1 = d; w2 = 0; w3 = u; w4 
 abbrev pub shareLayout : ℕ → ℕ → ℕ → ℕ → ℕ → ℕ → Record
 shareLayout d i Z c r round = record { w0 = shareKind; w1 = d; w2 = i; w3 = Z; w4 = c; w5 = r; w6 = 0; w7 = round }
 
--- the round: the group's number g, n and t, and the round's own number in word 4
-abbrev pub setLayout : ℕ → ℕ → ℕ → ℕ → Record
-setLayout g n t round = record { w0 = setKind; w1 = g; w2 = n; w3 = t; w4 = round; w5 = 0; w6 = 0; w7 = 0 }
+-- the round: the group's number g, n and t, the round's own number in word 4, and the first round under the new rule in word 5
+abbrev pub setLayout : ℕ → ℕ → ℕ → ℕ → ℕ → Record
+setLayout g n t round first = record { w0 = setKind; w1 = g; w2 = n; w3 = t; w4 = round; w5 = first; w6 = 0; w7 = 0 }
 
 -- ---- the figures of a record
 abbrev pub dealerOf : Record → ℕ
@@ -98,6 +98,9 @@ setT r = r .w3
 abbrev pub setRound : Record → ℕ
 setRound r = r .w4
 
+abbrev pub setFirst : Record → ℕ
+setFirst r = r .w5
+
 -- ---- form: a record agrees with its kind's layout of its own figures, its own round among them
 unfoldable pub agrees : Record → Record → Bool
 agrees r s =
@@ -118,7 +121,7 @@ abbrev pub isShareRecord : Record → Bool
 isShareRecord r = agrees r (shareLayout (dealerOf r) (memberOf r) (ZOf r) (shareC r) (shareR r) (roundOf r))
 
 abbrev pub isSetRecord : Record → Bool
-isSetRecord r = agrees r (setLayout (setGroup r) (setN r) (setT r) (setRound r))
+isSetRecord r = agrees r (setLayout (setGroup r) (setN r) (setT r) (setRound r) (setFirst r))
 
 -- ---- round: it is tested behind the form, by 17
 abbrev pub isOfRound : ℕ → Record → Bool

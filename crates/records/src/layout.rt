@@ -97,9 +97,9 @@ pub fn share_record(
     }
 }
 
-// The round: the group's number, n and t, and the round's own number.
-pub fn set_record(number: u32, n: u32, t: u32, round: u32) -> Record
-    ensures { λ a. ⌜ a ≡ setLayout number n t round ⌝ }
+// The round: the group's number, n and t, the round's own number and the first round under the new rule.
+pub fn set_record(number: u32, n: u32, t: u32, round: u32, first: u32) -> Record
+    ensures { λ a. ⌜ a ≡ setLayout number n t round first ⌝ }
 {
     Record {
         w0: SET,
@@ -107,7 +107,7 @@ pub fn set_record(number: u32, n: u32, t: u32, round: u32) -> Record
         w2: n,
         w3: t,
         w4: round,
-        w5: 0,
+        w5: first,
         w6: 0,
         w7: 0,
     }
@@ -189,7 +189,7 @@ pub fn is_share_record(r: Record) -> bool
 pub fn is_set_record(r: Record) -> bool
     ensures { λ a. ⌜ a ≡ isSetRecord r ⌝ }
 {
-    agrees(r, set_record(r.w1, r.w2, r.w3, r.w4))
+    agrees(r, set_record(r.w1, r.w2, r.w3, r.w4, r.w5))
 }
 
 // Whether a record is of that round, which is tested behind its form.

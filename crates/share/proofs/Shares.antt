@@ -1,7 +1,7 @@
 -- Opened shares: accepted exactly if their figures are proper and the challenge is the recomputed one, and what is written is accepted.
 -- The response gives back the announcements of the nonce, so the challenge is recomputed over the same message.
 use mathlib.Core.Path.{_≡_, refl, sym, ap, _∙_, subst}
-use mathlib.Core.Bool.{true}
+use mathlib.Core.Bool.{Bool, true}
 use mathlib.Core.List.{List, _++_}
 use mathlib.Core.Logic.{inl, inr}
 use Prim.Native.Nat.{ℕ, _^_, _<_}
@@ -23,7 +23,7 @@ use Rattle.group.specs.declared.Group.{Group}
 use Rattle.group.proofs.Elements.{power-element}
 use Rattle.sharing.specs.Setting.{ProperSetting, settingIn, inRound, roundChecks, judged, judgedElse}
 use Rattle.sharing.specs.declared.Setting.{Setting}
-use Rattle.sharing.proofs.Rounds.{judged-exactly, judged-else-in}
+use Rattle.sharing.proofs.Rounds.{round-proper, judged-in, judged-else-in, judged-exactly}
 use Rattle.records.specs.Layout.{shareKind, roundOf, ZOf}
 use Rattle.challenge.specs.Message.{challengeOf, shareMessage, shareTag}
 use Rattle.equality.specs.Equality.{announced, response}
@@ -153,14 +153,15 @@ module _ (S : Setting) (P : ProperSetting S) (word : S .round < 2 ^ 32) (d i Y x
       share-exactly S d i y Y b .1 (subst (AcceptedShare S d i y Y b) (sym read-written) written-proper)
       ∙ ap (λ (r : Record). value (record { 0 = ZOf r })) read-written
 
-  -- in the round of another number
-  pub refused-elsewhere : (round : ℕ) → (round ≡ S .round → ⊥) → judgeShareIn (inRound round S) d i y Y (writtenShare S d i Y x w) ≡ refused 17
+  -- in the round of another number, under either rule
+  pub refused-elsewhere : (round : ℕ) → (round ≡ S .round → ⊥) → (whole : Bool)
+      → judgeShareIn (inRound round whole S) d i y Y (writtenShare S d i Y x w) ≡ refused 17
   unfolding membersChecks writtenShareRecord
-  refused-elsewhere round n =
+  refused-elsewhere round n whole =
       let b : List ℕ = writtenShare S d i Y x w in
       let A = subst (AcceptedShare S d i y Y b) (sym read-written) written-proper .admitted in
       let m = admission-stages S d i y Y b A in
-      share-of-other-round (inRound round S) d i y Y b (m .0) (m .1) (m .2) (λ e. n (sym e ∙ A .round))
+      share-of-other-round (inRound round whole S) d i y Y b (m .0) (m .1) (m .2) (λ e. n (sym e ∙ A .round))
 
 pub share-complete : ShareComplete
 unfolding writeShareIn
@@ -198,4 +199,16 @@ shares-by-round R =
       kept = λ d i Y x w out k e.
           let checks = roundChecks R ++ writeShareChecks (settingIn R) d i Y x w (length out) in
           if-unmet (writtenShare (settingIn R) d i Y x w) out checks k (refused-exactly Unit checks tt k .0 e);
+      complete = complete;
     }
+  where
+    complete : R .round < 2 ^ 32 → (d i Y x w : ℕ) (out : List ℕ) → writeShareOutcome R d i Y x w (length out) ≡ value tt
+        → judgeShareOutcome R d i (keyOf (settingIn R .group) x) Y (lentAfterShare R d i Y x w out) ≡ value (record { 0 = shareOf (settingIn R .group) Y x })
+    complete k d i Y x w out e =
+        let y = keyOf (settingIn R .group) x in
+        let W = judged-exactly R (λ S. writeShareChecks S d i Y x w (length out)) (λ S. tt) tt .0 e in
+        let lent = judged-else-in R (λ S. writeShareChecks S d i Y x w (length out)) (λ S. writtenShare S d i Y x w) (W .0) out in
+        let b = lentAfterShare R d i Y x w out in
+        judged-in R (λ S. judgeShareChecks S d i y Y b) (λ S. record { 0 = ZOf (recordIn b) }) (W .0)
+        ∙ ap (judgeShareIn (settingIn R) d i y Y) lent
+        ∙ lent-share (settingIn R) (round-proper R (W .0)) k d i Y x w out (W .1)

@@ -1,6 +1,6 @@
 -- What is claimed of opened shares, for every proper setting: demand 2 for what a member posts. SharesByRound reads it off for rounds.
 use mathlib.Core.Path.{_≡_}
-use mathlib.Core.Bool.{true}
+use mathlib.Core.Bool.{Bool, true}
 use mathlib.Core.List.{List}
 use mathlib.Core.Logic.{_↔_}
 use Prim.Native.Nat.{ℕ, _^_, _<_, _≤_}
@@ -71,12 +71,12 @@ ShareComplete =
     (S : Setting) → ProperSetting S → S .round < 2 ^ 32 → (d i Y x w : ℕ) → writeShareIn S d i Y x w 32 ≡ value tt
     → judgeShareIn S d i (keyOf (S .group) x) Y (writtenShare S d i Y x w) ≡ value (record { 0 = shareOf (S .group) Y x })
 
--- in the round that it is written for: in every other it is refused by 17
+-- in the round that it is written for: in every other, under either rule, it is refused by 17
 abbrev pub ShareForOtherRound : Type 0
 ShareForOtherRound =
     (S : Setting) → ProperSetting S → S .round < 2 ^ 32 → (d i Y x w : ℕ) → writeShareIn S d i Y x w 32 ≡ value tt
-    → (round : ℕ) → (round ≡ S .round → ⊥)
-    → judgeShareIn (inRound round S) d i (keyOf (S .group) x) Y (writtenShare S d i Y x w) ≡ refused 17
+    → (round : ℕ) → (round ≡ S .round → ⊥) → (whole : Bool)
+    → judgeShareIn (inRound round whole S) d i (keyOf (S .group) x) Y (writtenShare S d i Y x w) ≡ refused 17
 
 -- the lent bytes are accepted where nothing is refused
 abbrev pub LentShare : Type 0
@@ -106,6 +106,9 @@ pub record ShareByRound (R : Round) : Type 0 where
       → lentAfterShare R d i Y x w out ≡ lentAfterShareIn (settingIn R) d i Y x w out
   pub kept : (d i Y x w : ℕ) (out : List ℕ) (k : ℕ) → writeShareOutcome R d i Y x w (length out) ≡ refused k
       → lentAfterShare R d i Y x w out ≡ out
+  -- what is written is accepted by a judge that takes the same figures of the round: its number, and the first round under the new rule
+  pub complete : R .round < 2 ^ 32 → (d i Y x w : ℕ) (out : List ℕ) → writeShareOutcome R d i Y x w (length out) ≡ value tt
+      → judgeShareOutcome R d i (keyOf (settingIn R .group) x) Y (lentAfterShare R d i Y x w out) ≡ value (record { 0 = shareOf (settingIn R .group) Y x })
 
 abbrev pub SharesByRound : Type 0
 SharesByRound = (R : Round) → ShareByRound R

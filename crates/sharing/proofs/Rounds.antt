@@ -1,7 +1,7 @@
 -- What the checks of a round settle: its setting is proper, and an operation over the round does what it does in the setting.
 -- Then quorums, and the members of a proper setting as nodes.
 use mathlib.Core.Path.{_≡_, sym, ap, _∙_, subst}
-use mathlib.Core.Bool.{true}
+use mathlib.Core.Bool.{Bool, true}
 use mathlib.Core.List.{List, _++_}
 use mathlib.Core.Logic.{_↔_}
 use Prim.Native.Nat.{ℕ, _+_, _≤_}
@@ -47,9 +47,9 @@ round-proper R m =
       t-most = leb-true (S .t) (S .n) (d .1);
     }
 
--- ---- in the round of another number
-module _ {S : Setting} (round : ℕ) where
-  pub proper-in-round : ProperSetting S → ProperSetting (inRound round S)
+-- ---- in the round of another number, under either rule
+module _ {S : Setting} (round : ℕ) (whole : Bool) where
+  pub proper-in-round : ProperSetting S → ProperSetting (inRound round whole S)
   proper-in-round P =
       record {
         proper = P .proper;
@@ -63,7 +63,7 @@ module _ {S : Setting} (round : ℕ) where
         t-most = P .t-most;
       }
 
-  pub carries-in-round : {f vs : List ℕ} → Carries (inRound round S) f vs → Carries S f vs
+  pub carries-in-round : {f vs : List ℕ} → Carries (inRound round whole S) f vs → Carries S f vs
   carries-in-round K = record { polynomial = record { size = K .polynomial .size; low = K .polynomial .low }; powers = K .powers }
 
 -- ---- an operation over a round, where 1 and 2 do not refuse it

@@ -1,17 +1,21 @@
--- The theorems of one dealing's commitments, as specs/Claims.antt states them.
-use mathlib.Core.Path.{refl, sym, ap, _∙_}
-use mathlib.Core.List.{List}
+-- The theorems of one dealing's commitments and of a round's two numbers, as specs/Claims.antt states them.
+use mathlib.Core.Path.{_≡_, refl, sym, ap, _∙_}
+use mathlib.Core.Bool.{true, false, not, _&&_}
+use mathlib.Core.List.{List, _++_}
 use mathlib.Core.Logic.{⊎-elim}
-use Prim.Native.Nat.{ℕ, _-_, _<_}
+use Prim.Native.Nat.{ℕ, zero, suc, _-_, _≤_, _<_}
 use native.Mathlib.Omega.{arith}
-use Rattle.words.specs.Checks.{value, isValue}
+use borrow.Author.Tests.{eq-eqb, ne-eqb, leb-true, le-leb, lt-leb}
+use lib.Dec.{leb, eqb}
+use Rattle.words.specs.Checks.{value, outcome, isValue, ifMet}
+use Rattle.words.proofs.Tests.{and-true, true-and, false-true}
 use Rattle.words.proofs.Checks.{not-value}
 use Rattle.group.specs.Power.{pow}
-use Rattle.sharing.specs.Setting.{ProperSetting}
+use Rattle.sharing.specs.Setting.{ProperSetting, takesWhole, settingIn, inRound, withNumbers, roundChecks, judged, judgedElse}
 use Rattle.sharing.specs.Answer.{degreeProduct, degreeFigures, degreeEquation, degreeIn, degreeOutcome, isOpening, openingFigures, openingEquation, openingIn, openingOutcome, isQuorum, recoveryIn, recoveryOutcome}
 use Rattle.sharing.specs.Weights.{gapsAt, weightAt, weightsOf}
 use Rattle.sharing.specs.Carried.{Commitments, secretOf, unitOf, place}
-use Rattle.sharing.specs.Claims.{LinearCheck, AlwaysCarried, UncarriedOneValue, CarriedPasses, CarriedExactly, OpeningExactly, QuorumRecovers, SecretOfCommitments, RoundBySetting, InEveryRound}
+use Rattle.sharing.specs.Claims.{LinearCheck, AlwaysCarried, UncarriedOneValue, CarriedPasses, CarriedExactly, OpeningExactly, QuorumRecovers, SecretOfCommitments, RoundBySetting, InEveryRound, Rule, RuleAlone}
 use Rattle.sharing.specs.declared.Setting.{Setting}
 use Rattle.sharing.proofs.Generators.{Exponents, exponents}
 use Rattle.sharing.proofs.Rounds.{round-proper, judged-in}
@@ -75,4 +79,32 @@ round-by-setting R m =
 
 pub in-every-round : InEveryRound
 unfolding degreeIn degreeFigures degreeEquation degreeProduct weightsOf weightAt gapsAt openingIn openingFigures openingEquation isOpening recoveryIn isQuorum
-in-every-round S round = record { degree = λ vs ds. refl; opening = λ vs u. refl; recovery = λ ms ss. refl }
+in-every-round S round whole = record { degree = λ vs ds. refl; opening = λ vs u. refl; recovery = λ ms ss. refl }
+
+-- ---- the rule
+pub rule : Rule
+unfolding takesWhole
+rule first round = record { new = (new-to, new-from); in-round-zero = by-first first; without-first = refl }
+  where
+    new-to : not (eqb first 0) && leb first round ≡ true → (first ≡ 0 → ⊥) × (first ≤ round)
+    new-to e =
+        let a = and-true (not (eqb first 0)) (leb first round) e in
+        (λ z. false-true (ap not (sym (eq-eqb first 0 z)) ∙ a .0), leb-true first round (a .1))
+
+    new-from : (first ≡ 0 → ⊥) × (first ≤ round) → not (eqb first 0) && leb first round ≡ true
+    new-from w = true-and (not (eqb first 0)) (leb first round) (ap not (ne-eqb first 0 (w .0))) (le-leb first round (w .1))
+
+    by-first : (k : ℕ) → not (eqb k 0) && leb k 0 ≡ false
+    by-first zero = refl
+    by-first (suc k) = simp (ne-eqb (suc k) 0 (λ z. omega arith), lt-leb (suc k) 0 (omega arith))
+
+-- the checks of a round have neither of its two numbers in them
+pub rule-alone : RuleAlone
+unfolding roundChecks judged judgedElse
+rule-alone R first e =
+    let same : settingIn (withNumbers (R .round) first R) ≡ settingIn R = λ j. inRound (R .round) (e j) (settingIn R) in
+    record {
+      setting = same;
+      answer = λ checks answer j. outcome (roundChecks R ++ checks (same j)) (answer (same j));
+      lent = λ checks new old j. ifMet (roundChecks R ++ checks (same j)) (new (same j)) old;
+    }

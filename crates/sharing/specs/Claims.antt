@@ -1,16 +1,18 @@
 -- What is claimed of one dealing's commitments: the sentences of demand 3 that speak of one dealing, over the three
--- operations' answers, for every proper setting. RoundBySetting reads them off for the rounds that 1 and 2 do not refuse.
+-- operations' answers, for every proper setting. RoundBySetting reads them off for the rounds that 1 and 2 do not refuse. Then what is
+-- claimed of a round's two numbers: where they do not enter, and the rule that they give.
 use mathlib.Core.Path.{_≡_}
+use mathlib.Core.Bool.{Bool, true, false}
 use mathlib.Core.List.{List}
 use mathlib.Core.Logic.{_↔_}
-use Prim.Native.Nat.{ℕ, _-_, _<_}
+use Prim.Native.Nat.{ℕ, _-_, _≤_, _<_}
 use lib.ListN.{getD}
 use Rattle.words.specs.Lists.{Below, map}
-use Rattle.words.specs.Checks.{value, refused, Met}
+use Rattle.words.specs.Checks.{Check, value, refused, Met}
 use Rattle.field.specs.Residue.{residueOps}
 use Rattle.field.specs.Polynomial.{dot}
 use Rattle.group.specs.Power.{pow}
-use Rattle.sharing.specs.Setting.{ProperSetting, settingIn, inRound, roundChecks}
+use Rattle.sharing.specs.Setting.{ProperSetting, takesWhole, settingIn, inRound, withNumbers, roundChecks, judged, judgedElse}
 use Rattle.sharing.specs.Answer.{degreeIn, openingIn, recoveryIn, degreeOutcome, openingOutcome, recoveryOutcome}
 use Rattle.sharing.specs.Carried.{Carries, Commitments, Quorum, TrueShares, secretOf, CheckPolynomial, Passes, unitOf, place, AgreeOff, sumsAt}
 use Rattle.sharing.specs.declared.Round.{Round}
@@ -85,11 +87,33 @@ pub record AnswersIn (S : Setting) (R : Round) : Type 0 where
 abbrev pub RoundBySetting : Type 0
 RoundBySetting = (R : Round) → Met (roundChecks R) → AnswersIn (settingIn R) R
 
--- The three operations do not depend on the round's number.
-pub record AnswersInRound (round : ℕ) (S : Setting) : Type 0 where
-  pub degree : (vs ds : List ℕ) → degreeIn (inRound round S) vs ds ≡ degreeIn S vs ds
-  pub opening : (vs : List ℕ) (u : ℕ) → openingIn (inRound round S) vs u ≡ openingIn S vs u
-  pub recovery : (ms ss : List ℕ) → recoveryIn (inRound round S) ms ss ≡ recoveryIn S ms ss
+-- The three operations depend neither on the round's number nor on the rule.
+pub record AnswersInRound (round : ℕ) (whole : Bool) (S : Setting) : Type 0 where
+  pub degree : (vs ds : List ℕ) → degreeIn (inRound round whole S) vs ds ≡ degreeIn S vs ds
+  pub opening : (vs : List ℕ) (u : ℕ) → openingIn (inRound round whole S) vs u ≡ openingIn S vs u
+  pub recovery : (ms ss : List ℕ) → recoveryIn (inRound round whole S) ms ss ≡ recoveryIn S ms ss
 
 abbrev pub InEveryRound : Type 0
-InEveryRound = (S : Setting) (round : ℕ) → AnswersInRound round S
+InEveryRound = (S : Setting) (round : ℕ) (whole : Bool) → AnswersInRound round whole S
+
+-- ---- the rule by which digests give exponents
+-- It is new exactly if the first round under it is not 0 and the round is not below it; so never in round 0, and with 0 in no round.
+pub record RuleOf (first round : ℕ) : Type 0 where
+  pub new : (takesWhole first round ≡ true) ↔ ((first ≡ 0 → ⊥) × (first ≤ round))
+  pub in-round-zero : takesWhole first 0 ≡ false
+  pub without-first : takesWhole 0 round ≡ false
+
+abbrev pub Rule : Type 0
+Rule = (first round : ℕ) → RuleOf first round
+
+-- Of the first round nothing else enters: where another one gives the round the same rule, every operation over the round answers the
+-- same and leaves the same in a lent buffer.
+pub record SameOver (R₁ R₂ : Round) : Type 1 where
+  pub setting : settingIn R₁ ≡ settingIn R₂
+  pub answer : {A : Type 0} (checks : Setting → List Check) (answer : Setting → A) → judged R₁ checks answer ≡ judged R₂ checks answer
+  pub lent : {A : Type 0} (checks : Setting → List Check) (new : Setting → A) (old : A)
+      → judgedElse R₁ checks new old ≡ judgedElse R₂ checks new old
+
+abbrev pub RuleAlone : Type 1
+RuleAlone =
+    (R : Round) (first : ℕ) → takesWhole first (R .round) ≡ takesWhole (R .first) (R .round) → SameOver (withNumbers (R .round) first R) R

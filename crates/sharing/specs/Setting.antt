@@ -1,8 +1,8 @@
 -- A round's figures as they are lent, the checks by which every operation begins, and the setting that they leave.
-use mathlib.Core.Bool.{Bool, _&&_}
+use mathlib.Core.Bool.{Bool, not, _&&_}
 use mathlib.Core.List.{List, [], _∷_, _++_}
 use Prim.Native.Nat.{ℕ, _^_, _≤_, _<_}
-use lib.Dec.{leb, ltb}
+use lib.Dec.{leb, ltb, eqb}
 use Rattle.words.specs.Lists.{upFrom}
 use Rattle.words.specs.Checks.{Check, _unless_, Outcome, value, refused, outcome, ifMet}
 use Rattle.group.specs.Table.{isGroup, groupOf}
@@ -13,7 +13,7 @@ use Rattle.sharing.specs.declared.SettingAnswer.{SettingAnswer}
 use Rattle.sharing.specs.declared.SettingAnswer.the-variants.{Value, Refused}
 
 -- all that is asked of a setting: a proper group whose figures fit a word, a number that fits a byte, n from 1 to 31 and below q,
--- t from 1 to n. Any round's number is proper
+-- t from 1 to n. Any round's number is proper, and either rule
 pub record ProperSetting (S : Setting) : Type 0 where
   pub proper : Proper (S .group)
   pub p-word : S .group .p < 2 ^ 32
@@ -26,12 +26,21 @@ pub record ProperSetting (S : Setting) : Type 0 where
   pub t-most : S .t ≤ S .n
 
 -- ---- from a round
-abbrev pub settingIn : Round → Setting
-settingIn R = record { group = groupOf (R .group); number = R .group; n = R .n; t = R .t; round = R .round }
+-- the rule is new, and exponents come from the whole digest: the first round under it is not 0, and the round is not below it
+unfoldable pub takesWhole : ℕ → ℕ → Bool
+takesWhole first round = not (eqb first 0) && leb first round
 
--- the same setting in the round of another number
-abbrev pub inRound : ℕ → Setting → Setting
-inRound round S = record { group = S .group; number = S .number; n = S .n; t = S .t; round = round }
+abbrev pub settingIn : Round → Setting
+settingIn R =
+    record { group = groupOf (R .group); number = R .group; n = R .n; t = R .t; round = R .round; whole = takesWhole (R .first) (R .round) }
+
+-- the same setting in the round of another number, under either rule
+abbrev pub inRound : ℕ → Bool → Setting → Setting
+inRound round whole S = record { group = S .group; number = S .number; n = S .n; t = S .t; round = round; whole = whole }
+
+-- the same round's figures with another number, and with another first round under the new rule
+abbrev pub withNumbers : ℕ → ℕ → Round → Round
+withNumbers round first R = record { group = R .group; n = R .n; t = R .t; round = round; first = first }
 
 -- n from 1 to 31 and below q, t from 1 to n
 unfoldable pub inRange : ℕ → ℕ → ℕ → Bool

@@ -24,21 +24,25 @@ pub use shares::opens;
 pub use shares::recovered_from;
 pub use weights::degree_passes;
 
-// A round's figures as they are lent, unjudged: the group's number, the number of members, the threshold and the round's number.
+// A round's figures as they are lent, unjudged: the group's number, the number of members, the threshold, the round's number and
+// the first round whose exponents come from the whole digest, 0 for none.
 pub struct Round {
     pub group: u32,
     pub n: u32,
     pub t: u32,
     pub round: u32,
+    pub first: u32,
 }
 
-// What operations work on: the group, its number, the number of members, the threshold and the round's number.
+// What operations work on: the group, its number, the number of members, the threshold, the round's number and whether exponents
+// come from the whole digest.
 pub struct Setting {
     pub group: Group,
     pub number: u32,
     pub n: u32,
     pub t: u32,
     pub round: u32,
+    pub whole: bool,
 }
 
 pub enum SettingAnswer {

@@ -1,6 +1,6 @@
 // The setting of a round, by whose checks every operation begins.
 ghost use mathlib.Core.Path.{_≡_};
-ghost use Rattle.sharing.specs.Setting.{inRange, settingOutcomeOf, settingOutcome};
+ghost use Rattle.sharing.specs.Setting.{takesWhole, inRange, settingOutcomeOf, settingOutcome};
 use crate::Round;
 use crate::Setting;
 use crate::SettingAnswer;
@@ -26,6 +26,16 @@ fn in_range(q: u32, n: u32, t: u32) -> bool
     t <= n
 }
 
+// Whether exponents come from the whole digest: the first round under this rule is not 0, and the round is not below it.
+fn takes_whole(first: u32, round: u32) -> bool
+    ensures { λ r. ⌜ r ≡ takesWhole first round ⌝ }
+{
+    if first == 0 {
+        return false;
+    }
+    first <= round
+}
+
 // The setting of a round: nothing else looks its group up. Refused: 1 no group of that number; 2 n or t outside its range.
 pub fn setting_of(rd: Round) -> SettingAnswer
     ensures { λ r. ⌜ settingOutcomeOf r ≡ settingOutcome rd ⌝ }
@@ -42,5 +52,6 @@ pub fn setting_of(rd: Round) -> SettingAnswer
         n: rd.n,
         t: rd.t,
         round: rd.round,
+        whole: takes_whole(rd.first, rd.round),
     })
 }

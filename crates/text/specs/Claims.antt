@@ -15,7 +15,7 @@ TextFits = (J : Judges) (s b : List ℕ) → length (drawText J s b) ≤ 1024
 -- ---- the scope paper's round: group 1, n = 2, t = 1, and a board of the keys 12 and 9
 -- its round.set
 abbrev pub exampleSet : List ℕ
-exampleSet = recordBytes (setLayout 1 2 1 0)
+exampleSet = recordBytes (setLayout 1 2 1 0 0)
 
 -- its board.bin
 abbrev pub exampleBoard : List ℕ

@@ -10,7 +10,7 @@ use Rattle.group.specs.declared.Element.{Element}
 use Rattle.sharing.specs.Setting.{judged}
 use Rattle.sharing.specs.declared.Round.{Round}
 use Rattle.sharing.specs.declared.Setting.{Setting}
-use Rattle.records.specs.Layout.{setGroup, setN, setT, setRound, isSetRecord}
+use Rattle.records.specs.Layout.{setGroup, setN, setT, setRound, setFirst, isSetRecord}
 use Rattle.board.specs.Board.{boardChecks}
 use Rattle.verdicts.specs.Verdict.{Judges, verdictsOn}
 use Rattle.verdicts.specs.Draw.{countAccepted, drawIn}
@@ -127,7 +127,9 @@ setChecks s =
 
 -- the round of its record
 abbrev pub roundIn : List ℕ → Round
-roundIn s = record { group = setGroup (recordIn s); n = setN (recordIn s); t = setT (recordIn s); round = setRound (recordIn s) }
+roundIn s =
+    let r = recordIn s in
+    record { group = setGroup r; n = setN r; t = setT r; round = setRound r; first = setFirst r }
 
 -- of the bytes of round.set and board.bin
 unfoldable pub drawText : Judges → List ℕ → List ℕ → List ℕ

@@ -66,6 +66,7 @@ pub fn draw_text(set: &[u8], board: &[u8], out: &mut [u8; 1024]) -> usize
         n: r.w2,
         t: r.w3,
         round: r.w4,
+        first: r.w5,
     };
     match setting_of(rd) {
         SettingAnswer::Refused(k) => put_line(out, 0, b"refused", k),

@@ -5,6 +5,7 @@ use crate::chains;
 use crate::draw_text;
 use crate::lines;
 use crate::payload;
+use crate::payload::Numbers;
 use crate::print;
 use words::Record;
 
@@ -52,7 +53,13 @@ pub(crate) fn load(case: Record, space: &[u8], base: &mut [u8; 65600]) {
 }
 
 // Calls the operation of a case with its board or chain. Argument 6 is the length of the set, which the payload has before the changes.
-pub(crate) fn run(case: Record, round: u32, space: &[u8], base: &[u8], built: &mut [u8; 65600]) {
+pub(crate) fn run(
+    case: Record,
+    numbers: Numbers,
+    space: &[u8],
+    base: &[u8],
+    built: &mut [u8; 65600],
+) {
     if case.w7 < case.w6 {
         return print::no_case();
     }
@@ -62,8 +69,8 @@ pub(crate) fn run(case: Record, round: u32, space: &[u8], base: &[u8], built: &m
     let board = payload::part(&built[..], 0, length);
     let operation = case.w0;
     match operation {
-        11 => lines::check(case, round, board),
-        12 => lines::part(case, round, board),
+        11 => lines::check(case, numbers, board),
+        12 => lines::part(case, numbers, board),
         17 => chains::judge(board),
         18 => chains::extend(case, board),
         _ => draw_text::run(payload::part(space, 0, from), board),

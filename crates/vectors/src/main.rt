@@ -21,6 +21,7 @@ mod write_dealing;
 mod write_share;
 
 use libc::STDIN_FILENO;
+use payload::Numbers;
 use words::Record;
 
 // Reads `count` bytes to the start of `space`. False where they do not fit or the input ends before.
@@ -31,10 +32,10 @@ fn read_payload(space: &mut [u8], count: usize) -> bool {
     io::read_full(STDIN_FILENO, &mut space[0..count]) == count
 }
 
-// Calls the operation of a case with its payload, in the round of that number.
+// Calls the operation of a case with its payload, in the round of these numbers.
 fn run(
     case: Record,
-    round: u32,
+    numbers: Numbers,
     space: &mut [u8],
     base: &mut [u8; 65600],
     built: &mut [u8; 65600],
@@ -43,26 +44,31 @@ fn run(
     match operation {
         1 => digest::run(case, space),
         2 => power::run(case),
-        3 => degree::run(case, round, space),
-        4 => opening::run(case, round, space),
-        5 => recovery::run(case, round, space),
+        3 => degree::run(case, numbers, space),
+        4 => opening::run(case, numbers, space),
+        5 => recovery::run(case, numbers, space),
         6 => equality_check::run(case, space),
-        7 => write_dealing::run(case, round, space),
-        8 => judge_dealing::run(case, round, space),
-        9 => write_share::run(case, round, space),
-        10 => judge_share::run(case, round, space),
-        11..=13 => boards::run(case, round, space, base, built),
+        7 => write_dealing::run(case, numbers, space),
+        8 => judge_dealing::run(case, numbers, space),
+        9 => write_share::run(case, numbers, space),
+        10 => judge_share::run(case, numbers, space),
+        11..=13 => boards::run(case, numbers, space, base, built),
         14 => boards::load(case, space, base),
         15 => pick_plots::run(case),
-        16 => print::length(b"round ", round as usize),
-        17..=18 => boards::run(case, round, space, base, built),
+        16 => print::length(b"round ", numbers.round as usize),
+        17..=18 => boards::run(case, numbers, space, base, built),
+        19 => print::length(b"first ", numbers.first as usize),
         _ => print::no_case(),
     }
 }
 
-// The number of the round that a case is run in: a case of its own sets it for those behind it.
-fn round_of(case: Record, before: u32) -> u32 {
-    if case.w0 == 16 { case.w1 } else { before }
+// A number that cases of one operation set for those behind them.
+fn set_by(operation: u32, case: Record, before: u32) -> u32 {
+    if case.w0 == operation {
+        case.w1
+    } else {
+        before
+    }
 }
 
 // Replays one case. False at the end of the input, and after a case that cannot be read.
@@ -71,6 +77,7 @@ fn replay(
     base: &mut [u8; 65600],
     built: &mut [u8; 65600],
     round: &mut u32,
+    first: &mut u32,
 ) -> bool {
     let mut header = [0u8; 32];
     let got = io::read_full(STDIN_FILENO, &mut header);
@@ -82,8 +89,13 @@ fn replay(
         print::no_case();
         return false;
     }
-    *round = round_of(case, *round);
-    run(case, *round, space, base, built);
+    *round = set_by(16, case, *round);
+    *first = set_by(19, case, *first);
+    let numbers = Numbers {
+        round: *round,
+        first: *first,
+    };
+    run(case, numbers, space, base, built);
     true
 }
 
@@ -94,8 +106,9 @@ fn main() {
     let mut base = [0u8; 65600];
     let mut built = [0u8; 65600];
     let mut round = 0;
+    let mut first = 0;
     let mut turns = u32::MAX;
-    while turns > 0 && replay(&mut space, &mut base, &mut built, &mut round) {
+    while turns > 0 && replay(&mut space, &mut base, &mut built, &mut round, &mut first) {
         turns -= 1;
     }
 }

@@ -1,12 +1,17 @@
 // Cases of the opening. The arguments are group, n, t, the opening and the number of commitments; the payload has these.
 use crate::payload;
+use crate::payload::Numbers;
 use crate::print;
 use group::Exponent;
 use words::Record;
 
-pub(crate) fn run(case: Record, round: u32, space: &[u8]) {
+pub(crate) fn run(case: Record, numbers: Numbers, space: &[u8]) {
     let vs = payload::list(space, 0);
     let commitments = payload::first(&vs, case.w5);
-    let answer = sharing::opening(payload::round(case, round), commitments, Exponent(case.w4));
+    let answer = sharing::opening(
+        payload::round(case, numbers),
+        commitments,
+        Exponent(case.w4),
+    );
     print::check(b"opening ", answer);
 }

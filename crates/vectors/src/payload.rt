@@ -2,13 +2,20 @@
 use sharing::Round;
 use words::Record;
 
-// The round of an operation whose first arguments are group, n and t, with the number that a case before it has set.
-pub(crate) fn round(case: Record, number: u32) -> Round {
+// What cases set for those behind them: the round's number, and the first round whose exponents come from the whole digest.
+pub(crate) struct Numbers {
+    pub(crate) round: u32,
+    pub(crate) first: u32,
+}
+
+// The round of an operation whose first arguments are group, n and t.
+pub(crate) fn round(case: Record, numbers: Numbers) -> Round {
     Round {
         group: case.w1,
         n: case.w2,
         t: case.w3,
-        round: number,
+        round: numbers.round,
+        first: numbers.first,
     }
 }
 

@@ -2,10 +2,11 @@
 // numbers of keys, coefficients and nonces, a word each, then these lists; the buffer is lent with the payload's first
 // bytes in it.
 use crate::payload;
+use crate::payload::Numbers;
 use crate::print;
 use words::Record;
 
-pub(crate) fn run(case: Record, round: u32, space: &mut [u8]) {
+pub(crate) fn run(case: Record, numbers: Numbers, space: &mut [u8]) {
     let figures = payload::figures(space);
     let size = figures.w0 as usize;
     if space.len() < size {
@@ -16,7 +17,7 @@ pub(crate) fn run(case: Record, round: u32, space: &mut [u8]) {
     let f = payload::list(space, from);
     let ws = payload::list(space, from + figures.w2 as usize);
     let answer = dealing::write_dealing(
-        payload::round(case, round),
+        payload::round(case, numbers),
         case.w4,
         payload::first(&ys, figures.w1),
         payload::first(&f, figures.w2),

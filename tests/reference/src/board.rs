@@ -232,11 +232,10 @@ mod tests {
 
     /// Keys, and each dealer's lines, opening and shares.
     fn everything() -> Vec<Record> {
-        everything_of(0)
+        everything_of(FIGURES)
     }
 
-    fn everything_of(round: u32) -> Vec<Record> {
-        let figures = FIGURES.with_round(round);
+    fn everything_of(figures: Figures) -> Vec<Record> {
         let members = Members::new(figures, &[5, 1, 2_147_483_542, 70_000]);
         let mut records = members.key_records();
         for (dealer, s) in (1..).zip(SECRETS) {
@@ -346,7 +345,7 @@ mod tests {
     #[test]
     fn boards_of_rounds() {
         for round in [0, 1, 0x0102_0304, u32::MAX] {
-            let records = everything_of(round);
+            let records = everything_of(FIGURES.with_round(round));
             assert!(records.iter().all(|record| record[7] == round));
             let board = record::bytes(records);
             let judged_in = |number| judge_board(FIGURES.with_round(number), &board);
@@ -359,6 +358,24 @@ mod tests {
                 assert_eq!(answer, Err(17));
                 assert!(dealer_lines(FIGURES.with_round(other), 3, &board).is_empty());
             }
+        }
+    }
+
+    /// A board is judged under its own rule as the same in round 0, and under the other no dealing is accepted. A dealer's
+    /// lines are the same under both.
+    #[test]
+    fn boards_of_rules() {
+        let expected = judged(&everything());
+        for (own, other) in [(0, 1), (1, 0), (2, 1), (1, 2)] {
+            let [own, other] = [own, other].map(|first| FIGURES.with_round(1).with_first(first));
+            let board = record::bytes(everything_of(own));
+            let accepted = judge_board(own, &board).unwrap();
+            assert_eq!(accepted.verdicts, expected.verdicts);
+            assert_eq!(accepted.draw, expected.draw);
+            let refused = judge_board(other, &board).unwrap();
+            assert_eq!(refused.verdicts, [Verdict::Refused(10); 4]);
+            assert_eq!(refused.draw, Err(14));
+            assert_eq!(dealer_lines(own, 3, &board), dealer_lines(other, 3, &board));
         }
     }
 

@@ -164,6 +164,29 @@ mod tests {
         }
     }
 
+    /// The first rounds of one rule have the same lines, and those of the other rule refuse them.
+    #[test]
+    fn a_dealing_of_the_other_rule_is_refused() {
+        let (old, new) = ([0, 6, u32::MAX], [1, 2, 5]);
+        let written = |first| {
+            let mut lines = [0; 128];
+            let figures = FIGURES.with_round(5).with_first(first);
+            let answer = write_dealing(figures, 3, &keys(), &[3, 5], &[1, 2, 3, 4], &mut lines);
+            assert_eq!(answer, Ok(()));
+            lines
+        };
+        for (own, other) in [(old, new), (new, old)] {
+            let lines = written(own[0]);
+            assert_eq!(own.map(written), [lines; 3]);
+            let judged = |first| {
+                let figures = FIGURES.with_round(5).with_first(first);
+                judge_dealing(figures, 3, &keys(), &lines)
+            };
+            assert_eq!(own.map(judged), [Ok(()); 3]);
+            assert_eq!(other.map(judged), [Err(10); 3]);
+        }
+    }
+
     #[test]
     fn the_form_of_every_line_counts_before_a_round() {
         for (k, j) in [(0, 3), (3, 0), (1, 1)] {

@@ -15,7 +15,7 @@ const KINDS: [(&str, u32, [&str; 7]); 5] = [
     ("line", LINE, ["d", "i", "v", "Y", "r", "c", ROUND]),
     ("opening", OPENING, ["d", "0", "u", "0", "0", "0", ROUND]),
     ("share", SHARE, ["d", "i", "Z", "c", "r", "0", ROUND]),
-    ("set", SET, ["g", "n", "t", ROUND, "0", "0", "0"]),
+    ("set", SET, ["g", "n", "t", ROUND, "first", "0", "0"]),
 ];
 
 /// Whether a word of a kind is a name other than the round's.
@@ -29,14 +29,14 @@ fn names(words: &[&str; 7]) -> String {
     names.join(" ")
 }
 
-/// The layout of a kind of record.
+/// The layout of a kind of record, from its names and the round's in the order of the words.
 fn layout((name, _, words): &(&str, u32, [&str; 7])) -> String {
+    let is_figure = |word: &&str| is_name(word) || *word == ROUND;
+    let figures: Vec<&str> = words.iter().copied().filter(is_figure).collect();
     let fields = (1..).zip(words).map(|(k, word)| format!("; w{k} = {word}"));
     let fields: String = fields.collect();
-    format!(
-        "{name}Layout {} {ROUND} = record {{ w0 = {name}Kind{fields} }}\n",
-        names(words)
-    )
+    let figures = figures.join(" ");
+    format!("{name}Layout {figures} = record {{ w0 = {name}Kind{fields} }}\n")
 }
 
 /// The bytes of a record of a kind in round 0.
@@ -138,7 +138,7 @@ mod tests {
         let opened = "openedBoard = boardOf firstLines (opening 1 3 ++ opening 2 6)\n";
         assert!(text.contains(opened));
         assert!(text.contains("openingLayout d u round = record { w0 = openingKind; w1 = d; w2 = 0; w3 = u; w4 = 0; w5 = 0; w6 = 0; w7 = round }\n"));
-        assert!(text.contains("setLayout g n t round = record { w0 = setKind; w1 = g; w2 = n; w3 = t; w4 = round; w5 = 0; w6 = 0; w7 = 0 }\n"));
+        assert!(text.contains("setLayout g n t round first = record { w0 = setKind; w1 = g; w2 = n; w3 = t; w4 = round; w5 = first; w6 = 0; w7 = 0 }\n"));
         assert!(text.contains("opening d u = recordBytes (openingLayout d u 0)\n"));
     }
 }

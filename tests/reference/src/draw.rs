@@ -21,16 +21,18 @@ pub fn set_record(figures: Figures) -> Record {
         n,
         t,
         round,
+        first,
     } = figures;
-    [SET, number, n, t, round, 0, 0, 0]
+    [SET, number, n, t, round, first, 0, 0]
 }
 
 /// 3 not one record; 4 of another shape.
 fn read_set(bytes: &[u8]) -> Answer<Figures> {
     require(bytes.len() == SIZE, 3)?;
-    let [set, number, n, t, round, spare @ ..] = record::read(bytes);
-    require(set == SET && spare == [0; 3], 4)?;
-    Ok(Figures::of(number, n, t).with_round(round))
+    let [set, number, n, t, round, first, spare @ ..] = record::read(bytes);
+    require(set == SET && spare == [0; 2], 4)?;
+    let figures = Figures::of(number, n, t);
+    Ok(figures.with_round(round).with_first(first))
 }
 
 /// The text: the set is judged first, then the board.
@@ -93,13 +95,19 @@ mod tests {
 
     #[test]
     fn a_set_is_read_as_it_was_written() {
-        for round in [0, 1, 0x0102_0304, u32::MAX] {
-            let figures = FOUR.with_round(round);
+        for (round, first) in [
+            (0, 0),
+            (0, u32::MAX),
+            (1, 0),
+            (0x0102_0304, 1),
+            (u32::MAX, 0x0102_0304),
+        ] {
+            let figures = FOUR.with_round(round).with_first(first);
             let record = set_record(figures);
-            assert_eq!(record, [9, 1, 4, 2, round, 0, 0, 0]);
+            assert_eq!(record, [9, 1, 4, 2, round, first, 0, 0]);
             let read = read_set(&record::bytes([record])).unwrap();
             assert_eq!(set_record(read), record);
-            for word in [0, 5, 6, 7] {
+            for word in [0, 6, 7] {
                 let mut other = record;
                 other[word] += 1;
                 assert_eq!(read_set(&record::bytes([other])).err(), Some(4));

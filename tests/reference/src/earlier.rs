@@ -1,5 +1,6 @@
-//! The cases that were there before records had a round's number, and which of them are answered otherwise now. Their
-//! answers of then are in tests/earlier.
+//! The cases that were there before rounds had a first round under the new rule, and which of them are answered otherwise
+//! now. Their answers of then are in tests/earlier; those of the cases that were there before records had a round's number
+//! are from before that.
 
 use crate::record::{self, Record, KEY, LINE, OPENING, SIZE};
 use crate::vectors::cases::{read, Case};
@@ -23,9 +24,12 @@ fn of_another_round(case: &Case, bytes: &[u8]) -> Option<(usize, Record)> {
     places.find(|(_, record)| record[7] != case.round)
 }
 
-/// What is at fault in a case: a word that the form wanted to be 0 then, and that is the round's number now.
+/// What is at fault in a case: a word that the form wanted to be 0 then, and that is the number of the round or of the first
+/// round under the new rule now.
 fn fault(case: &Case) -> Option<String> {
     match case.operation {
+        // None of the cases of then has a first round.
+        _ if case.first != 0 => None,
         8 => {
             let keys = 4 * case.arguments[4] as usize;
             let (k, line) = of_another_round(case, &case.payload[keys..])?;
@@ -44,12 +48,15 @@ fn fault(case: &Case) -> Option<String> {
     }
 }
 
-/// A set that names a round, in which the board is judged now.
+/// A set that names a first round under the new rule, or a round, in which the board is judged now. Where it names both, a
+/// round was right then.
 fn of_set(case: &Case) -> Option<String> {
     let set = case.set();
-    let round = (set.len() == SIZE).then(|| record::read(set)[4])?;
+    let [.., round, first, _, _] = (set.len() == SIZE).then(|| record::read(set))?;
+    let new = format!("word 5 of the set is {first}: the first round under the new rule");
     let judged = format!("word 4 of the set is {round}: judged in round {round}");
-    (round != 0).then_some(judged)
+    let named = (first != 0).then_some(new);
+    named.or((round != 0).then_some(judged))
 }
 
 /// What a case is answered, on one line.
@@ -108,6 +115,28 @@ mod tests {
         let text = changed_from("\ntext 11\nrefused 17\n", "\ntext 10\nrefused 4\n").unwrap();
         assert!(text.ends_with(" is 1 | 10 / refused 4 | 11 / refused 17\n"));
         assert!([share, text].iter().all(|text| text.lines().count() == 1));
+    }
+
+    /// The first set with a word 5, which was refused by 4.
+    #[test]
+    fn an_answer_that_the_first_round_explains() {
+        let vectors = once();
+        let cases = read(&vectors.stdin, &vectors.stdout).unwrap();
+        let is_new = |case: &Case| {
+            case.operation == 13 && of_set(case).is_some_and(|fault| fault.contains("word 5"))
+        };
+        let place = cases.iter().position(is_new).unwrap();
+        let mut lines: Vec<String> = cases
+            .iter()
+            .map(|case| format!("{} {}\n{}", case.name, case.answer, case.text))
+            .collect();
+        assert_eq!(lines.concat(), vectors.stdout);
+        lines[place] = "text 10\nrefused 4\n".to_string();
+        let text = changed(vectors, vectors.stdin.len(), &lines.concat()).unwrap();
+        let (number, answer) = (place + 1, answer(&cases[place]));
+        let fault = "word 5 of the set is 268435456: the first round under the new rule";
+        let expected = format!("{number} | text | {fault} | 10 / refused 4 | {answer}\n");
+        assert_eq!(text, expected);
     }
 
     #[test]

@@ -11,6 +11,7 @@ mod draw;
 mod earlier;
 mod equality;
 mod example;
+mod exponent;
 mod forge;
 mod group;
 mod message;
@@ -40,7 +41,7 @@ type Done = Result<(), Box<dyn Error>>;
 
 const USAGE: &str =
     "usage: reference vectors DIR | forge DIR | example DIR | draw DIR | largest | digest FILE
-       reference rounds DIR | board GROUP N T ROUND opened|recovered DIR | case FILE
+       reference rounds DIR | board GROUP N T ROUND FIRST opened|recovered DIR | case FILE
        reference repeat OPERATION COUNT DIR | replay FILE | earlier LENGTH FILE";
 
 /// The primes p and q of group 3: the largest below 2^32.
@@ -67,12 +68,15 @@ fn write_files(folder: &str, files: &[(&str, Vec<u8>)]) -> Done {
     Ok(())
 }
 
-fn figures(number: &str, n: &str, t: &str, round: &str) -> Result<Figures, ParseIntError> {
+/// The figures of a round in the order of its set.
+fn figures(words: [&str; 5]) -> Result<Figures, ParseIntError> {
+    let [number, n, t, round, first] = words;
     Ok(Figures {
         number: number.parse()?,
         n: n.parse()?,
         t: t.parse()?,
         round: round.parse()?,
+        first: first.parse()?,
     })
 }
 
@@ -87,8 +91,8 @@ fn run(words: &[String]) -> Done {
         ["example", folder] => write_files(folder, &example::files())?,
         ["draw", folder] => print!("{}", draw::text_of(Path::new(folder))),
         ["rounds", folder] => println!("{}", rounds::write(Path::new(folder))?),
-        ["board", number, n, t, round, source, folder] => {
-            let figures = figures(number, n, t, round)?;
+        ["board", number, n, t, round, first, source, folder] => {
+            let figures = figures([number, n, t, round, first])?;
             write_files(folder, &bench::round(figures, source == "opened"))?;
         }
         ["case", file] => io::stdout().write_all(&bench::case(&fs::read(file)?))?,

@@ -1,5 +1,6 @@
 //! The hashed messages, and the exponents that their digests give.
 
+use crate::exponent::of_digest;
 use crate::round::Round;
 use crate::sha256::sha256;
 
@@ -7,11 +8,9 @@ const DEALING: u8 = 0x44;
 const SHARE: u8 = 0x53;
 const COEFFICIENT: u8 = 0x50;
 
-/// The first 8 bytes of the message's digest, as a number, modulo q.
-fn exponent(message: &[u8], q: u32) -> u32 {
-    let [a, b, c, d, e, f, g, h, ..] = sha256(message);
-    let number = u64::from_be_bytes([a, b, c, d, e, f, g, h]);
-    (number % u64::from(q)) as u32
+/// The exponent that a message gives in its round.
+fn exponent(round: &Round, message: &[u8]) -> u32 {
+    of_digest(round, &sha256(message))
 }
 
 /// The longest head.
@@ -37,7 +36,7 @@ fn extend(message: &mut Vec<u8>, words: &[u32]) {
 }
 
 /// What is hashed for a dealing: v and Y, and a1 and a2, of each line.
-fn dealing_message(
+pub fn dealing_message(
     round: &Round,
     dealer: u32,
     dealt: &[[u32; 2]],
@@ -58,12 +57,11 @@ pub fn dealing_challenge(
     dealt: &[[u32; 2]],
     announced: &[[u32; 2]],
 ) -> u32 {
-    let message = dealing_message(round, dealer, dealt, announced);
-    exponent(&message, round.group.q)
+    exponent(round, &dealing_message(round, dealer, dealt, announced))
 }
 
 /// What is hashed for an opened share: the member, y, Y, S, a1 and a2.
-fn share_message(round: &Round, dealer: u32, member: u32, words: &[u32; 5]) -> Vec<u8> {
+pub fn share_message(round: &Round, dealer: u32, member: u32, words: &[u32; 5]) -> Vec<u8> {
     let mut message = head(SHARE, round, dealer, 1 + 20);
     message.push(member as u8);
     extend(&mut message, words);
@@ -72,12 +70,11 @@ fn share_message(round: &Round, dealer: u32, member: u32, words: &[u32; 5]) -> V
 
 /// The challenge of an opened share.
 pub fn share_challenge(round: &Round, dealer: u32, member: u32, words: &[u32; 5]) -> u32 {
-    let message = share_message(round, dealer, member, words);
-    exponent(&message, round.group.q)
+    exponent(round, &share_message(round, dealer, member, words))
 }
 
 /// What is hashed for the first coefficient, from v and Y of each line, and where its place stands.
-fn first_coefficient(round: &Round, dealer: u32, dealt: &[[u32; 2]]) -> (Vec<u8>, usize) {
+pub fn first_coefficient(round: &Round, dealer: u32, dealt: &[[u32; 2]]) -> (Vec<u8>, usize) {
     let mut message = head(COEFFICIENT, round, dealer, 1 + 8 * dealt.len());
     let place = message.len();
     message.push(0);
@@ -93,7 +90,7 @@ pub fn check_polynomial(round: &Round, dealer: u32, dealt: &[[u32; 2]]) -> Vec<u
     let mut coefficients = Vec::with_capacity((round.n - round.t) as usize);
     for k in 0..round.n - round.t {
         message[place] = k as u8;
-        coefficients.push(exponent(&message, round.group.q));
+        coefficients.push(exponent(round, &message));
     }
     coefficients
 }
@@ -158,6 +155,38 @@ mod tests {
         let two = round(2, 1, 0x0102_0304);
         let challenge = dealing_challenge(&two, 2, &dealt[..2], &dealt[2..]);
         assert_eq!(challenge, 858_714_260);
+    }
+
+    /// The exponents of the same messages in a round under the new rule: a share's, two coefficients and a dealing's. As
+    /// `sha256sum` has their digests, and `bc` the remainders of these.
+    #[test]
+    fn whole_exponents_by_another_program() {
+        let dealt = [[1, 2], [3, 4], [5, 6], [7, 8]];
+        for (number, expected) in [
+            (1, [10, 8, 2, 1]),
+            (2, [436, 723, 564, 509]),
+            (3, [1_794_559_105, 831_746_684, 871_252_326, 1_608_404_453]),
+        ] {
+            let whole = |n, t| {
+                let figures = Figures::of(number, n, t).with_round(0x0102_0304);
+                figures.with_first(0x0102_0304).round().unwrap()
+            };
+            let (four, two) = (whole(4, 2), whole(2, 1));
+            let share = share_challenge(&four, DEALER, MEMBER, &WORDS);
+            let polynomial = check_polynomial(&four, DEALER, &dealt);
+            let challenge = dealing_challenge(&two, 2, &dealt[..2], &dealt[2..]);
+            assert_eq!([share, polynomial[0], polynomial[1], challenge], expected);
+        }
+    }
+
+    /// The first round is not hashed.
+    #[test]
+    fn the_first_round_has_no_bytes() {
+        let [none, same] = [0, 7].map(|first| {
+            let figures = Figures::of(3, 4, 2).with_round(7).with_first(first);
+            share_message(&figures.round().unwrap(), DEALER, MEMBER, &WORDS)
+        });
+        assert_eq!(none, same);
     }
 
     /// Each byte of the number counts.

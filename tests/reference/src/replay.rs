@@ -22,9 +22,10 @@ use std::io::Write;
 
 type Read<T> = Result<T, Box<dyn Error>>;
 
-/// A case: the number of the round before it, its operation's number, its arguments and its payload.
+/// A case: the number of the round and the first round before it, its operation's number, its arguments and its payload.
 struct Case<'a> {
     round: u32,
+    first: u32,
     operation: u32,
     arguments: [u32; 6],
     payload: &'a [u8],
@@ -32,12 +33,13 @@ struct Case<'a> {
 
 /// Prints what each case is answered.
 pub fn replay(mut input: &[u8], out: &mut impl Write) -> Done {
-    let (mut base, mut round): (&[u8], u32) = (&[], 0);
+    let (mut base, mut round, mut first): (&[u8], u32, u32) = (&[], 0, 0);
     while !input.is_empty() {
-        let case = next(&mut input, round)?;
+        let case = next(&mut input, round, first)?;
         match case.operation {
             14 => base = case.payload,
             16 => round = case.arguments[0],
+            19 => first = case.arguments[0],
             _ => {}
         }
         run(&case, base, out)?;
@@ -46,10 +48,11 @@ pub fn replay(mut input: &[u8], out: &mut impl Write) -> Done {
 }
 
 /// The case at the front, which is taken off.
-fn next<'a>(input: &mut &'a [u8], round: u32) -> Read<Case<'a>> {
+fn next<'a>(input: &mut &'a [u8], round: u32, first: u32) -> Read<Case<'a>> {
     let [operation, a, b, c, d, e, f, length] = record::read(part(input, SIZE)?);
     Ok(Case {
         round,
+        first,
         operation,
         arguments: [a, b, c, d, e, f],
         payload: part(input, length as usize)?,
@@ -96,6 +99,7 @@ fn run(case: &Case, base: &[u8], out: &mut impl Write) -> Done {
         16 => print_length(out, b"round ", case.arguments[0] as usize),
         17 => run_judge_chain(case, base, out),
         18 => run_extend_chain(case, base, out),
+        19 => print_length(out, b"first ", case.arguments[0] as usize),
         _ => Err("no case".into()),
     }
 }
@@ -103,7 +107,8 @@ fn run(case: &Case, base: &[u8], out: &mut impl Write) -> Done {
 /// The figures of an operation whose first arguments are group, n and t.
 fn figures(case: &Case) -> Figures {
     let [number, n, t, ..] = case.arguments;
-    Figures::of(number, n, t).with_round(case.round)
+    let figures = Figures::of(number, n, t);
+    figures.with_round(case.round).with_first(case.first)
 }
 
 /// A number's decimal digits. Printing goes without the formatting of std, whose work would differ by the answer and be
@@ -347,7 +352,7 @@ mod tests {
 
     #[test]
     fn what_is_no_case() {
-        let unknown = record::bytes([[19, 0, 0, 0, 0, 0, 0, 0]]);
+        let unknown = record::bytes([[20, 0, 0, 0, 0, 0, 0, 0]]);
         let cut = record::bytes([[1, 0, 0, 0, 0, 0, 0, 1]]);
         let without_payload = record::bytes([[6, 1, 0, 0, 0, 0, 0, 0]]);
         let without_base = record::bytes([[17, 0, 0, 0, 0, 64, 0, 0]]);

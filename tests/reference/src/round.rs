@@ -1,4 +1,4 @@
-//! Rounds: a group, the number of members, the threshold and the round's number.
+//! Rounds: a group, the number of members, the threshold, the round's number and that of the first round under the new rule.
 
 use crate::answer::{require, Answer};
 use crate::group::{group, Group};
@@ -13,6 +13,7 @@ pub struct Figures {
     pub n: u32,
     pub t: u32,
     pub round: u32,
+    pub first: u32,
 }
 
 /// The round of the figures by hand.
@@ -25,17 +26,20 @@ pub struct Round {
     pub n: u32,
     pub t: u32,
     pub round: u32,
+    /// The first round in which an exponent is taken from the whole digest, 0 for none.
+    pub first: u32,
 }
 
 impl Figures {
-    /// The figures of round 0.
+    /// The figures of round 0, with no round under the new rule.
     pub const fn of(number: u32, n: u32, t: u32) -> Figures {
-        let round = 0;
+        let (round, first) = (0, 0);
         Figures {
             number,
             n,
             t,
             round,
+            first,
         }
     }
 
@@ -44,14 +48,20 @@ impl Figures {
         Figures { round, ..self }
     }
 
+    /// The same figures with another first round under the new rule.
+    pub fn with_first(self, first: u32) -> Figures {
+        Figures { first, ..self }
+    }
+
     /// The checks by which every operation begins: 1 no group of that number; 2 n or t outside its range. Any number is
-    /// a round's.
+    /// a round's, and the first round's.
     pub fn round(self) -> Answer<Round> {
         let Figures {
             number,
             n,
             t,
             round,
+            first,
         } = self;
         let group = group(number)?;
         require((1..=MOST).contains(&n) && n < group.q, 2)?;
@@ -62,6 +72,7 @@ impl Figures {
             n,
             t,
             round,
+            first,
         })
     }
 }
@@ -70,6 +81,11 @@ impl Round {
     /// Whether the number is that of a member, who may also deal.
     pub fn has_member(&self, number: u32) -> bool {
         (1..=self.n).contains(&number)
+    }
+
+    /// Whether an exponent is taken from the whole digest. Round 0 is before every first round.
+    pub fn takes_whole(&self) -> bool {
+        self.first != 0 && self.round >= self.first
     }
 }
 
@@ -85,8 +101,28 @@ mod tests {
     fn any_number_is_a_rounds() {
         for number in [0, 1, 256, u32::MAX] {
             let round = FOUR.with_round(number).round().unwrap();
-            assert_eq!(round.round, number);
+            assert_eq!((round.round, round.first), (number, 0));
+            let round = FOUR.with_first(number).round().unwrap();
+            assert_eq!((round.round, round.first), (0, number));
         }
+    }
+
+    fn takes_whole(round: u32, first: u32) -> bool {
+        let figures = FOUR.with_round(round).with_first(first);
+        figures.round().unwrap().takes_whole()
+    }
+
+    #[test]
+    fn the_rule_is_new_from_the_first_round_on() {
+        for first in [1, 2, 256, 0x0102_0304, u32::MAX] {
+            assert!(!takes_whole(0, first));
+            assert!(!takes_whole(first - 1, first));
+            assert!(takes_whole(first, first));
+            assert!(takes_whole(first.saturating_add(1), first));
+            assert!(takes_whole(u32::MAX, first));
+            assert!(!takes_whole(first, 0));
+        }
+        assert!(!takes_whole(0, 0));
     }
 
     #[test]

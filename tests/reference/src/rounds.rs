@@ -1,5 +1,7 @@
 //! Rounds that `draw` is run on: the files of each in a folder of its own, and the text that it has to print.
 
+mod crossed;
+mod firsts;
 mod lengths;
 mod numbered;
 mod places;
@@ -99,6 +101,8 @@ fn all() -> Vec<Case> {
     lengths::add(&mut cases);
     sets::add(&mut cases);
     numbered::add(&mut cases);
+    firsts::add(&mut cases);
+    crossed::add(&mut cases);
     cases.0
 }
 

@@ -122,6 +122,29 @@ mod tests {
         }
     }
 
+    /// The first rounds of one rule have the same record, and those of the other rule refuse it.
+    #[test]
+    fn a_share_of_the_other_rule_is_refused() {
+        let (old, new) = ([0, 6, u32::MAX], [1, 2, 5]);
+        let written = |first| {
+            let mut record = [0; SIZE];
+            let figures = FIGURES.with_round(5).with_first(first);
+            let answer = write_share(figures, 2, 4, encrypted(), SECRET_KEY, 99, &mut record);
+            assert_eq!(answer, Ok(()));
+            record
+        };
+        for (own, other) in [(old, new), (new, old)] {
+            let record = written(own[0]);
+            assert_eq!(own.map(written), [record; 3]);
+            let judged = |first| {
+                let figures = FIGURES.with_round(5).with_first(first);
+                judge_share(figures, 2, 4, key(), encrypted(), &record).err()
+            };
+            assert_eq!(own.map(judged), [None; 3]);
+            assert_eq!(other.map(judged), [Some(10); 3]);
+        }
+    }
+
     /// The number alone does not make a share one of its round, since it is hashed.
     #[test]
     fn a_share_of_another_round_is_refused() {

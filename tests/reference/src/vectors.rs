@@ -8,7 +8,7 @@
 //!
 //! Boards and chains are given as changes of a base, which a case of its own loads. The number of the round too has a
 //! case of its own: argument 1 is the round of all cases behind it that take a round's figures. Before the first it is 0.
-//! The text of `draw` has its round from the set.
+//! So has the number of the first round under the new rule. The text of `draw` has both from the set.
 
 pub mod boards;
 pub mod cases;
@@ -26,6 +26,7 @@ pub mod pick_plots;
 mod power;
 mod recovery;
 mod rounds;
+mod rules;
 pub mod sample;
 pub mod splices;
 mod write_dealing;
@@ -50,12 +51,18 @@ const ROUND: Operation = Operation {
     name: "round",
 };
 
+const FIRST: Operation = Operation {
+    number: 19,
+    name: "first",
+};
+
 #[derive(Default)]
 pub struct Vectors {
     pub stdin: Vec<u8>,
     pub stdout: String,
     base: Vec<u8>,
     round: u32,
+    first: u32,
 }
 
 impl Vectors {
@@ -66,17 +73,22 @@ impl Vectors {
     }
 
     /// Group, n and t, the first arguments of a case that takes a round's figures. Where the last round was another, a
-    /// case with its number comes before.
+    /// case with its number comes before, and so for the first round under the new rule.
     fn round(&mut self, figures: Figures) -> [u32; 3] {
         let Figures {
             number,
             n,
             t,
             round,
+            first,
         } = figures;
         if round != self.round {
             self.line(&ROUND, &[round], &[], &round.to_string());
             self.round = round;
+        }
+        if first != self.first {
+            self.line(&FIRST, &[first], &[], &first.to_string());
+            self.first = first;
         }
         [number, n, t]
     }
@@ -146,7 +158,8 @@ pub fn bytes(words: &[u32]) -> Vec<u8> {
     words.iter().flat_map(|word| word.to_be_bytes()).collect()
 }
 
-/// Every case, operation by operation; behind these the cases of rounds other than 0, and those on chains.
+/// Every case, operation by operation; behind these the cases of rounds other than 0, those on chains, and those of rounds
+/// with a first round under the new rule.
 pub fn all() -> Vectors {
     let mut vectors = Vectors::default();
     digest::add(&mut vectors);
@@ -163,6 +176,7 @@ pub fn all() -> Vectors {
     pick_plots::add(&mut vectors);
     rounds::add(&mut vectors);
     chains::add(&mut vectors);
+    rules::add(&mut vectors);
     vectors
 }
 

@@ -63,7 +63,7 @@ put-board-requires c κs = let g = c .before .before in (setting-proper _ (g .be
 
 -- the round of the record that is read
 abbrev roundOf : Record → Round
-roundOf r = record { group = r .w1; n = r .w2; t = r .w3; round = r .w4 }
+roundOf r = record { group = r .w1; n = r .w2; t = r .w3; round = r .w4; first = r .w5 }
 
 returns-2 : tie.Need-returns-2
 unfolding refusedLine

@@ -1,22 +1,24 @@
 //! An accepted case of each operation on the largest figures, repeated; and the same cases with one argument changed, so
 //! that they are refused at once. What the first take beyond the second is the operation.
 
-use crate::answer::Answer;
+mod hashed;
+
 use crate::chain::{LINK, MOST};
-use crate::dealing::write_dealing;
 use crate::equality::response;
 use crate::group::{G, H};
 use crate::numbers::Numbers;
-use crate::record::{self, SIZE};
+use crate::record;
 use crate::round::{Figures, Round};
-use crate::share::write_share;
 use crate::sharing::powers_at;
 use crate::vectors::boards::posted::{any_members, is_line, Posted};
+use crate::vectors::bytes;
 use crate::vectors::chains::links::Chain;
-use crate::vectors::sample::{keys, list, proper};
-use crate::vectors::{buffered, bytes};
+use crate::vectors::sample::{list, proper};
 
 const LARGEST: Figures = Figures::of(3, 31, 16);
+
+/// How the name of an operation ends in a round under the new rule, which is the first round of all.
+const WHOLE: &str = "-whole";
 
 /// The dealer and the member of the cases.
 const DEALER: u32 = 31;
@@ -73,6 +75,10 @@ pub fn files(name: &str, count: usize) -> Option<[(&'static str, Vec<u8>); 2]> {
 
 /// What has to be loaded before the case, and the case.
 fn case(name: &str) -> Option<(Vec<u8>, Case)> {
+    if let Some(name) = name.strip_suffix(WHOLE) {
+        let figures = LARGEST.with_round(1).with_first(1);
+        return Some((numbered(figures), hashed::case(name, figures)?));
+    }
     let round = proper(LARGEST);
     let numbers = &mut Numbers::new(41);
     let case = match name {
@@ -82,10 +88,6 @@ fn case(name: &str) -> Option<(Vec<u8>, Case)> {
         "recovery-t" => recovery(&round, round.t, numbers),
         "recovery-n" => recovery(&round, round.n, numbers),
         "equality" => equality(&round, numbers),
-        "write_dealing" => write_dealing_case(&round, numbers),
-        "judge_dealing" => judge_dealing(&round, numbers),
-        "write_share" => write_share_case(&round, numbers),
-        "judge_share" => judge_share(&round, numbers),
         "pick-all" => pick_plots(&round, MOST_PLOTS, numbers),
         "pick-some" => pick_plots(&round, 40, numbers),
         "lines_check" => return Some(lines(11, |_| false, numbers)),
@@ -93,9 +95,15 @@ fn case(name: &str) -> Option<(Vec<u8>, Case)> {
         "line" => return Some(lines(12, |member| member != MEMBER, numbers)),
         "judge_chain" => return Some(chain(17, &[0, 0, 0], numbers)),
         "extend_chain" => return Some(chain(18, &[LARGEST.number, H, LINK as u32], numbers)),
-        _ => return None,
+        _ => hashed::case(name, LARGEST)?,
     };
     Some((Vec::new(), case))
+}
+
+/// Cases with the numbers of the round and of the first round under the new rule.
+fn numbered(figures: Figures) -> Vec<u8> {
+    let Figures { round, first, .. } = figures;
+    record::bytes([[16, round, 0, 0, 0, 0, 0, 0], [19, first, 0, 0, 0, 0, 0, 0]])
 }
 
 /// The largest exponent, which gives the inverse. This is printed with one digit, as the number of the refusal is.
@@ -138,70 +146,11 @@ fn equality(round: &Round, numbers: &mut Numbers) -> Case {
     Case::in_group(6, &[], payload)
 }
 
-fn write_dealing_case(round: &Round, numbers: &mut Numbers) -> Case {
-    let size = SIZE * round.n as usize;
-    let mut words = vec![size as u32, round.n, round.t, round.n];
-    words.extend(keys(round, numbers));
-    words.extend(list(numbers, round.t, round.group.q));
-    words.extend(list(numbers, round.n, round.group.q));
-    Case::of(7, &[DEALER], buffered(&words, size))
-}
-
-fn judge_dealing(round: &Round, numbers: &mut Numbers) -> Case {
-    let keys = keys(round, numbers);
-    let polynomial = list(numbers, round.t, round.group.q);
-    let nonces = list(numbers, round.n, round.group.q);
-    let mut lines = vec![0; SIZE * round.n as usize];
-    written(write_dealing(
-        LARGEST,
-        DEALER,
-        &keys,
-        &polynomial,
-        &nonces,
-        &mut lines,
-    ));
-    let arguments = [DEALER, round.n, lines.len() as u32];
-    Case::of(8, &arguments, [bytes(&keys), lines].concat())
-}
-
-/// Y, the secret key and the nonce of an opened share.
-fn share(round: &Round, numbers: &mut Numbers) -> [u32; 3] {
-    let q = round.group.q;
-    let encrypted = round.group.power(G, numbers.below(q));
-    [encrypted, 1 + numbers.below(q - 1), numbers.below(q)]
-}
-
-fn write_share_case(round: &Round, numbers: &mut Numbers) -> Case {
-    let payload = buffered(&share(round, numbers), SIZE);
-    Case::of(9, &[DEALER, MEMBER, SIZE as u32], payload)
-}
-
-fn judge_share(round: &Round, numbers: &mut Numbers) -> Case {
-    let [encrypted, x, nonce] = share(round, numbers);
-    let mut record = vec![0; SIZE];
-    written(write_share(
-        LARGEST,
-        DEALER,
-        MEMBER,
-        encrypted,
-        x,
-        nonce,
-        &mut record,
-    ));
-    let figures = bytes(&[round.group.power(H, x), encrypted]);
-    let arguments = [DEALER, MEMBER, SIZE as u32];
-    Case::of(10, &arguments, [figures, record].concat())
-}
-
 /// So many of the most plots. A refused case has a list of the same length, which is printed too.
 fn pick_plots(round: &Round, count: u32, numbers: &mut Numbers) -> Case {
     let value = round.group.power(H, numbers.below(round.group.q));
     let arguments = [value, 15, MOST_PLOTS, count, count];
     Case::in_group(15, &arguments, Vec::new())
-}
-
-fn written(answer: Answer<()>) {
-    answer.expect("proper figures");
 }
 
 /// A dealer's lines on a board of everything but his lines for some members. The board is the base unchanged.
@@ -243,7 +192,7 @@ mod tests {
     use super::*;
     use crate::replay::replay;
 
-    const NAMES: [&str; 17] = [
+    const NAMES: [&str; 21] = [
         "power",
         "degree",
         "opening",
@@ -254,6 +203,10 @@ mod tests {
         "judge_dealing",
         "write_share",
         "judge_share",
+        "write_dealing-whole",
+        "judge_dealing-whole",
+        "write_share-whole",
+        "judge_share-whole",
         "lines_check",
         "lines",
         "line",
@@ -263,12 +216,17 @@ mod tests {
         "extend_chain",
     ];
 
-    /// The lines that the cases of a file are answered by, without that of a base.
+    /// The lines that the cases of a file are answered by, without those of a base, a round and a first round.
     fn answers(file: &[u8]) -> Vec<String> {
         let mut out = Vec::new();
         replay(file, &mut out).unwrap();
         let text = String::from_utf8(out).unwrap();
-        let lines = text.lines().filter(|line| !line.starts_with("base "));
+        let is_loaded = |line: &&str| {
+            ["base ", "round ", "first "]
+                .iter()
+                .any(|l| line.starts_with(l))
+        };
+        let lines = text.lines().filter(|line| !is_loaded(line));
         lines.map(str::to_string).collect()
     }
 
@@ -288,5 +246,18 @@ mod tests {
                 assert!(line.contains(&refusal) || line.starts_with("lines 0 "));
             }
         }
+    }
+
+    /// Both files have the numbers of the round before the first case.
+    #[test]
+    fn cases_under_the_new_rule() {
+        for name in NAMES.into_iter().filter(|name| name.ends_with(WHOLE)) {
+            for (_, file) in files(name, 1).unwrap() {
+                let mut out = Vec::new();
+                replay(&file, &mut out).unwrap();
+                assert!(out.starts_with(b"round 1\nfirst 1\n"));
+            }
+        }
+        assert!(files("power-whole", 1).is_none());
     }
 }

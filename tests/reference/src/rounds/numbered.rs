@@ -98,15 +98,15 @@ fn empty(cases: &mut Cases) {
     }
 }
 
-/// The words behind the number are still spare.
+/// The last words are still spare. With word 5 the round is one under the new rule, and its dealings are of the old one.
 fn spare_words(cases: &mut Cases) {
     let round = Round {
         set: everything(1).set,
         board: everything(1).board(),
     };
     cases.files("round-1", &round, "draw ");
-    for word in 5..8 {
+    for (word, end) in [(5, "refused 14"), (6, "refused 4"), (7, "refused 4")] {
         let name = format!("round-1-set-word-{word}");
-        cases.with_set(&name, &round, set_of(1, word, 1), "refused 4");
+        cases.with_set(&name, &round, set_of(1, word, 1), end);
     }
 }

@@ -16,15 +16,16 @@ fn changed(word: usize, to: u32) -> Vec<u8> {
     set
 }
 
+/// Word 5 is a first round under the new rule, which round 0 is before.
 fn shapes(cases: &mut Cases) {
     let round = example::round();
     for kind in [0, 1, 8, 0x0100_0009, 0x0900_0000] {
         let name = format!("set-kind-{kind}");
         cases.with_set(&name, &round, changed(0, kind), "refused 4");
     }
-    for word in 5..8 {
+    for (word, end) in [(5, "draw 13"), (6, "refused 4"), (7, "refused 4")] {
         let name = format!("set-word-{word}");
-        cases.with_set(&name, &round, changed(word, 1), "refused 4");
+        cases.with_set(&name, &round, changed(word, 1), end);
     }
 }
 

@@ -4,8 +4,9 @@ use super::splices::applied;
 use crate::record::{self, SIZE};
 
 pub struct Case<'a> {
-    /// The number of the round before the case.
+    /// The number of the round before the case, and that of the first round under the new rule.
     pub round: u32,
+    pub first: u32,
     pub operation: u32,
     pub arguments: [u32; 6],
     pub payload: &'a [u8],
@@ -33,7 +34,7 @@ impl Case<'_> {
 /// The cases of an input with their lines and, of the text, so many bytes behind as the line says. None where these are
 /// not the answers to the input.
 pub fn read<'a>(mut input: &'a [u8], mut output: &'a str) -> Option<Vec<Case<'a>>> {
-    let (mut cases, mut round, mut base) = (Vec::new(), 0, &[][..]);
+    let (mut cases, mut round, mut first, mut base) = (Vec::new(), 0, 0, &[][..]);
     while !input.is_empty() {
         let (header, behind) = input.split_at_checked(SIZE)?;
         let [operation, a, b, c, d, e, f, length] = record::read(header);
@@ -45,10 +46,12 @@ pub fn read<'a>(mut input: &'a [u8], mut output: &'a str) -> Option<Vec<Case<'a>
             13 => (text, below) = below.split_at_checked(answer.parse().ok()?)?,
             14 => base = payload,
             16 => round = a,
+            19 => first = a,
             _ => {}
         }
         cases.push(Case {
             round,
+            first,
             operation,
             arguments: [a, b, c, d, e, f],
             payload,

@@ -1,9 +1,14 @@
 //! Tests that the vectors have every class of cases.
 
 mod chains;
+mod crossed;
+mod exponents;
+mod firsts;
 mod links;
 mod others;
 mod rounds;
+mod rules;
+mod ways;
 
 use super::cases::{read, Case};
 use super::{once, Vectors};

@@ -209,7 +209,7 @@ pub fn uncarried(vectors: &mut Vectors, figures: Figures, numbers: &mut Numbers)
     }
 }
 
-fn refused(vectors: &mut Vectors, right: &Case) {
+pub fn refused(vectors: &mut Vectors, right: &Case) {
     let group = proper(right.figures).group;
     let (p, q) = (group.p, group.q);
     let element = |v| other_element(&group, v);

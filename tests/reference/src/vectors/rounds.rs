@@ -1,12 +1,12 @@
 //! Cases of rounds other than 0, and of records of another round than that in which they are judged.
 
 mod boards;
-mod dealings;
+pub mod dealings;
 mod records;
-mod renumbered;
-mod shares;
+pub mod renumbered;
+pub mod shares;
 mod sharing;
-mod uncarried;
+pub mod uncarried;
 
 use super::Vectors;
 use crate::numbers::Numbers;

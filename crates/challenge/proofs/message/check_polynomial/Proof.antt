@@ -1,19 +1,16 @@
 -- `check_polynomial` meets its contract. The loop's invariant: the array holds the first k coefficients, and 0 behind; and the buffer
 -- holds the message of the last of them, at the start that of the coefficient 0.
 use mathlib.Core.Path.{_≡_, refl, ap, _∙_}
-use mathlib.Core.List.{List}
 use Prim.Native.Nat.{ℕ, _+_, _-_, _*_, _≤_}
 use native.Mathlib.Omega.{arith}
 use borrow.Author.Needs.{needs}
 use lib.ListN.{length, take, length-set}
 use Rattle.words.specs.Lists.{map, upFrom, filled}
 use Rattle.words.proofs.Lists.{filled-none, run-next}
-use Rattle.sha256.specs.Hash.{hash}
 use Rattle.sharing.specs.declared.Setting.{Setting}
 use Rattle.records.specs.Layout.{entry}
-use Rattle.challenge.specs.Message.{exponentOf, challengeOf, coefficientMessage, checkPolynomial}
+use Rattle.challenge.specs.Message.{challengeOf, coefficientMessage, checkPolynomial}
 use Rattle.challenge.proofs.Buffers.{coefficient-put, coefficient-next}
-use Rattle.challenge.proofs.Challenges.{order-positive}
 use Rattle.challenge.proofs.message.check_polynomial.Statement.{statement}
 use Rattle.challenge.proofs.message.check_polynomial.Tie as tie
 
@@ -70,7 +67,7 @@ slice-aggregate-challenge c = search needs
 challenge-requires : tie.Need-challenge-requires Inv-loop μ-loop
 challenge-requires c κs =
     let s = c .before .before .before .before .before .before .before .before in
-    (order-positive (s .pre .0), simp length-set (omega (arith, s .pre .0 .n-most)), omega (arith, s .pre .0 .n-most))
+    (s .pre .0, simp length-set (omega (arith, s .pre .0 .n-most)), omega (arith, s .pre .0 .n-most))
 
 mul-ds : tie.Need-mul-ds Inv-loop μ-loop
 mul-ds c = search needs
@@ -85,7 +82,6 @@ loop-less : tie.Need-loop-less Inv-loop μ-loop
 loop-less c = search needs
 
 loop-again : tie.Need-loop-again Inv-loop μ-loop
-unfolding challengeOf
 loop-again c =
     let l = c .before .before .before .loop in
     let w = c .before .before .before .before .before .before .before in
@@ -104,7 +100,7 @@ loop-again c =
       simp length-set (l .inv .2),
       p ∙ ap (coefficientMessage (a .s) (a .d) v Y) b,
       run-next f 31 0 (l .k) (l .inv .4) (omega arith)
-          (c .challenge .ensures ∙ ap (λ (x : List ℕ). exponentOf (a .s .group .q) (hash x)) p ∙ ap f e),
+          (c .challenge .ensures ∙ ap (challengeOf (a .s)) p ∙ ap f e),
     )
 
 returns : tie.Need-returns Inv-loop μ-loop

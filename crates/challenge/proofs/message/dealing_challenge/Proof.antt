@@ -7,13 +7,11 @@ use borrow.Author.Needs.{needs}
 use lib.ListN.{length}
 use Rattle.words.specs.Bytes.{putAt}
 use Rattle.words.proofs.Bytes.{put-none}
-use Rattle.sha256.specs.Hash.{hash}
 use Rattle.sharing.specs.Setting.{members}
 use Rattle.records.specs.Layout.{entry}
-use Rattle.challenge.specs.Message.{dealingTag, bytesOver, exponentOf, challengeOf, dealingMessage}
+use Rattle.challenge.specs.Message.{dealingTag, bytesOver, challengeOf, dealingMessage}
 use Rattle.records.proofs.Members.{entry-at}
 use Rattle.challenge.proofs.Buffers.{members-length, over-next, behind-head}
-use Rattle.challenge.proofs.Challenges.{order-positive}
 use Rattle.challenge.proofs.message.dealing_challenge.Statement.{statement}
 use Rattle.challenge.proofs.message.dealing_challenge.Tie as tie
 
@@ -114,10 +112,10 @@ add-challenge c = search needs
 challenge-requires : tie.Need-challenge-requires Inv-loop μ-loop
 challenge-requires c κs =
     let s = c .before .before .before .before .before .before .before in
-    (order-positive (s .pre .0), omega arith, omega arith)
+    (s .pre .0, omega arith, omega arith)
 
 returns : tie.Need-returns Inv-loop μ-loop
-unfolding challengeOf dealingMessage
+unfolding dealingMessage
 returns c =
     let l = c .before .before .before .loop in
     let h = c .before .before .before .before .before .before in
@@ -125,7 +123,7 @@ returns c =
     let f = words (a .vs .now) (a .encrypted .now) (a .a1s .now) (a .a2s .now) in
     let end : l .i ≡ a .s .n = omega arith in
     c .challenge .ensures
-    ∙ ap (λ (x : List ℕ). exponentOf (a .s .group .q) (hash x))
+    ∙ ap (challengeOf (a .s))
     (behind-head dealingTag (a .s) (a .d) (bytesOver f (members (a .s .n))) _ (h .head .result + 16 * a .s .n) (h .head .ensures .1) (h .head .ensures .2)
     (l .inv .4 ∙ ap (λ (k : ℕ). putAt (h .head .result) (bytesOver f (members k)) (h .head .last .0)) end)
     (omega (arith, members-length f 16 (λ j. refl) (a .s .n))) (omega arith))

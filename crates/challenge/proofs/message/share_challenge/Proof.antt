@@ -7,10 +7,8 @@ use borrow.Author.Needs.{needs}
 use lib.ListN.{length, set, length-set}
 use Rattle.words.specs.Bytes.{wordsBytes, putAt}
 use Rattle.words.proofs.Bytes.{words-length}
-use Rattle.sha256.specs.Hash.{hash}
-use Rattle.challenge.specs.Message.{exponentOf, challengeOf, shareMessage}
+use Rattle.challenge.specs.Message.{challengeOf, shareMessage}
 use Rattle.challenge.proofs.Buffers.{put-words, words-one, behind-byte}
-use Rattle.challenge.proofs.Challenges.{order-positive}
 use Rattle.challenge.proofs.message.share_challenge.Statement.{statement}
 use Rattle.challenge.proofs.message.share_challenge.Tie as tie
 
@@ -53,10 +51,10 @@ add-challenge c = search needs
 challenge-requires : tie.Need-challenge-requires
 challenge-requires c κs =
     let h = c .before .before .before .before .before .before .before .before .before in
-    (order-positive (h .before .before .pre .0), omega (arith, h .head .ensures .0), omega (arith, h .head .ensures .0))
+    (h .before .before .pre .0, omega (arith, h .head .ensures .0), omega (arith, h .head .ensures .0))
 
 returns : tie.Need-returns
-unfolding challengeOf shareMessage
+unfolding shareMessage
 returns c =
     let w = c .before .before .before in
     let q = w .before .before .before in
@@ -73,7 +71,7 @@ returns c =
     (w .put-word .ensures ∙ ap (λ (t : List ℕ). putAt (at + 17) t (q .put-four .last .0)) (words-one (f .a2 .0)))
     in
     c .challenge .ensures
-    ∙ ap (λ (x : List ℕ). exponentOf (a .s .group .q) (hash x))
+    ∙ ap (challengeOf (a .s))
     (behind-byte (a .tag) (a .s) (f .dealer) (wordsBytes (ws ++ us)) _ (at + 21) (f .member) (h .head .ensures .1) (h .head .ensures .2) p
     (omega (arith, words-length (ws ++ us))) (omega arith))
 

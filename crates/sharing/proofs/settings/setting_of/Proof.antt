@@ -32,9 +32,13 @@ returns-2 c =
 returns-3 : tie.Need-returns-3
 unfolding settingOutcome roundChecks
 returns-3 c =
-    let d = c .before .before .before in
+    let r = c .before in
+    let d = r .before .before .before in
     let g = group-value _ (d .before .before .group-of .ensures) (d .gr .given .1) in
-    simp (g .0, g .1, passed (c .before .in-range .ensures) (c .if1 .left))
+    simp (g .0, g .1, passed (r .before .in-range .ensures) (r .if1 .left), c .takes-whole .ensures)
+
+takes-whole-requires : tie.Need-takes-whole-requires
+takes-whole-requires c κs = search needs
 
 pub setting-of-spec : {M : Type 1} → statement M
 setting-of-spec =
@@ -46,4 +50,5 @@ setting-of-spec =
     returns
     in-range-requires
     returns-2
+    takes-whole-requires
     returns-3)

@@ -107,6 +107,16 @@ impl Posted {
         posted.remove(is_removed);
         posted
     }
+
+    /// The board with records of another one, in the same order, in place of some of its own.
+    pub fn mixed(&self, other: &Posted, is_other: impl Fn(&Record) -> bool) -> Posted {
+        let pairs = self.records.iter().zip(&other.records);
+        let records = pairs.map(|(own, other)| if is_other(own) { *other } else { *own });
+        Posted {
+            records: records.collect(),
+            ..self.clone()
+        }
+    }
 }
 
 pub fn is_key(record: &Record) -> bool {

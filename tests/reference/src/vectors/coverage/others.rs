@@ -1,6 +1,7 @@
 //! Tests that the vectors have every class of cases with records of another round than that in which they are judged.
 
 use super::rounds::round_of;
+use super::rules::is_new;
 use super::*;
 use crate::dealing::judge_dealing;
 use crate::record::{KEY, LINE, OPENING, SHARE};
@@ -31,7 +32,7 @@ fn numbered(mut records: Vec<Record>, round: u32) -> Vec<u8> {
     record::bytes(records)
 }
 
-fn words(bytes: &[u8]) -> Vec<u32> {
+pub fn words(bytes: &[u8]) -> Vec<u32> {
     let words = bytes.chunks_exact(4);
     let words = words.map(|word| u32::from_be_bytes([word[0], word[1], word[2], word[3]]));
     words.collect()
@@ -44,16 +45,30 @@ fn share(case: &Case) -> Record {
 
 /// What the lines of a case of judging a dealing are refused by in a round with its number in each.
 fn refused_in(case: &Case, round: u32) -> Option<u32> {
+    dealing_refused_by(case, round, case.first)
+}
+
+/// The same with another first round under the new rule.
+pub fn dealing_refused_by(case: &Case, round: u32, first: u32) -> Option<u32> {
     let [number, n, t, dealer, count, _] = case.arguments;
-    let figures = Figures::of(number, n, t).with_round(round);
+    let figures = Figures::of(number, n, t)
+        .with_round(round)
+        .with_first(first);
     let keys = words(&case.payload[..4 * count as usize]);
     judge_dealing(figures, dealer, &keys, &numbered(lines(case), round)).err()
 }
 
 /// The same of a case of judging a share.
 fn share_refused_in(case: &Case, round: u32) -> Option<u32> {
+    share_refused_by(case, round, case.first)
+}
+
+/// The same with another first round under the new rule.
+pub fn share_refused_by(case: &Case, round: u32, first: u32) -> Option<u32> {
     let [number, n, t, dealer, member, _] = case.arguments;
-    let figures = Figures::of(number, n, t).with_round(round);
+    let figures = Figures::of(number, n, t)
+        .with_round(round)
+        .with_first(first);
     let record = numbered(vec![share(case)], round);
     let [key, encrypted] = words(&case.payload[..8])[..] else {
         panic!("two figures come before the record");
@@ -158,11 +173,20 @@ fn one_record() {
     }
 }
 
-/// What a dealing with a line of another round is refused by, and where it is by 17, by what it would be otherwise.
+/// Under the old rule and under the new one.
 #[test]
-fn lines_with_other_faults() {
+fn other_faults() {
+    for is_whole in [false, true] {
+        let is_one = |case: &&Case| case.round != 0 && is_new((case.round, case.first)) == is_whole;
+        lines_with_other_faults(answered(8).filter(is_one));
+        shares_with_other_faults(answered(10).filter(is_one));
+    }
+}
+
+/// What a dealing with a line of another round is refused by, and where it is by 17, by what it would be otherwise.
+fn lines_with_other_faults(cases: impl Iterator<Item = &'static Case<'static>>) {
     let (mut found, mut behind) = (BTreeSet::new(), BTreeSet::new());
-    for case in answered(8).filter(|case| case.round != 0) {
+    for case in cases {
         if lines(case).iter().any(|line| line[7] != case.round) {
             found.insert(refusal(case));
         }
@@ -189,11 +213,9 @@ fn the_form_of_every_line_first() {
 }
 
 /// The same as for a dealing.
-#[test]
-fn shares_with_other_faults() {
+fn shares_with_other_faults(cases: impl Iterator<Item = &'static Case<'static>>) {
     let (mut found, mut behind) = (BTreeSet::new(), BTreeSet::new());
-    let whole = answered(10).filter(|case| case.payload.len() >= 8 + SIZE);
-    for case in whole.filter(|case| case.round != 0) {
+    for case in cases.filter(|case| case.payload.len() >= 8 + SIZE) {
         if share(case)[7] != case.round {
             found.insert(refusal(case));
         }

@@ -77,28 +77,34 @@ fn boards_of_each_round() {
     assert!(has_all(&ends, &["draw"]) && has_all(&verdicts, &["opened", "recovered"]));
 }
 
-/// Dealer 3's dealing is accepted by luck: no polynomial carries it, so that its secret depends on who opens.
-#[test]
-fn an_uncarried_dealing_on_a_board() {
+/// Whether boards beside some sets have a dealing of dealer 3 that is accepted by luck: no polynomial carries it, so that its
+/// secret depends on who opens.
+pub fn has_uncarried(is_one: impl Fn(&[u8]) -> bool) -> bool {
     let mut secrets: BTreeMap<Vec<Record>, BTreeSet<&str>> = BTreeMap::new();
     for Files { set, board, text } in texts() {
-        let is_numbered = round_of(set).is_some_and(|round| round != 0);
         let found = text
             .lines()
             .find_map(|l| l.strip_prefix("dealer 3 recovered "));
-        if let Some(secret) = found.filter(|_| is_numbered) {
+        if let Some(secret) = found.filter(|_| is_one(set)) {
             let records = board.chunks_exact(SIZE).map(record::read);
             let lines = records.filter(|record| record[..2] == [LINE, 3]);
             secrets.entry(lines.collect()).or_default().insert(secret);
         }
     }
-    assert!(secrets.values().any(|secrets| secrets.len() > 1));
+    secrets.values().any(|secrets| secrets.len() > 1)
 }
 
-/// A set of a round with one of the words behind it.
+#[test]
+fn an_uncarried_dealing_on_a_board() {
+    assert!(has_uncarried(
+        |set| round_of(set).is_some_and(|round| round != 0)
+    ));
+}
+
+/// A set of a round with one of the last words.
 #[test]
 fn spare_words_of_a_set() {
-    for word in 5..8 {
+    for word in 6..8 {
         let is_one = |files: &&Files| {
             let spare = |k: &usize| record::read(files.set)[*k] != 0;
             round_of(files.set).is_some_and(|round| round != 0) && (5..8).filter(spare).eq([word])

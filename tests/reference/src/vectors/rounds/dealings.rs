@@ -39,13 +39,13 @@ pub fn add(vectors: &mut Vectors, numbers: &mut Numbers) {
 }
 
 /// A dealing of any polynomial by dealer 1.
-fn any(figures: Figures, numbers: &mut Numbers) -> Case {
+pub fn any(figures: Figures, numbers: &mut Numbers) -> Case {
     let polynomial = list(numbers, figures.t, proper(figures).group.q);
     Case::of(figures, 1, &polynomial, numbers)
 }
 
 /// A dealing as it is written, and these lines judged.
-fn written(vectors: &mut Vectors, figures: Figures, numbers: &mut Numbers) {
+pub fn written(vectors: &mut Vectors, figures: Figures, numbers: &mut Numbers) {
     let dealer = 1 + numbers.below(figures.n);
     let case = write_dealing::Case::of(figures, dealer, numbers);
     assert_eq!(case.add(vectors), None);
@@ -94,7 +94,7 @@ fn one_line(vectors: &mut Vectors, right: &Case) {
 }
 
 /// A line of another round, and one of no form before it, in its place or behind it.
-fn form_first(vectors: &mut Vectors, right: &Case) {
+pub fn form_first(vectors: &mut Vectors, right: &Case) {
     for other in [0, 1, 3] {
         for shapeless in [0, 1, 3] {
             for word in 0..3 {

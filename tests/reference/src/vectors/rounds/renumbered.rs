@@ -5,7 +5,7 @@ use super::super::boards::{dealer_refused_by, refused_by};
 use super::super::Vectors;
 use super::OTHERS;
 use crate::numbers::Numbers;
-use crate::record::{Record, KEY, LINE, OPENING, SHARE};
+use crate::record::{KEY, LINE, OPENING, SHARE};
 use crate::round::Figures;
 
 /// With so few records a board in which each is changed is short.
@@ -14,7 +14,7 @@ const TWO: Figures = Figures::of(3, 2, 1);
 pub fn add(vectors: &mut Vectors, numbers: &mut Numbers) {
     for (round, other) in OTHERS {
         let seed = u64::from(numbers.word());
-        let [old, new] = [round, other].map(|round| everything(round, seed));
+        let [old, new] = [round, other].map(|round| everything(TWO.with_round(round), seed));
         vectors.load(&new.board());
         of_another(vectors, &old, &new);
         one_kind(vectors, &old, &new);
@@ -23,26 +23,16 @@ pub fn add(vectors: &mut Vectors, numbers: &mut Numbers) {
 }
 
 /// Everything posted in a round; the same keys and polynomials in each.
-fn everything(round: u32, seed: u64) -> Posted {
+pub fn everything(figures: Figures, seed: u64) -> Posted {
     let mut numbers = Numbers::new(seed);
-    let members = any_members(TWO.with_round(round), &mut numbers);
+    let members = any_members(figures, &mut numbers);
     Posted::everything(&members, &mut numbers)
-}
-
-/// The new board with the old records of some, as they are.
-fn mixed(old: &Posted, new: &Posted, is_old: impl Fn(&Record) -> bool) -> Posted {
-    let pairs = old.records.iter().zip(&new.records);
-    let records = pairs.map(|(old, new)| if is_old(old) { *old } else { *new });
-    Posted {
-        records: records.collect(),
-        ..new.clone()
-    }
 }
 
 /// The old board whole, and its keys alone.
 fn of_another(vectors: &mut Vectors, old: &Posted, new: &Posted) {
     assert_eq!(refused_by(&new.add(vectors)), None);
-    let whole = mixed(old, new, |_| true);
+    let whole = new.mixed(old, |_| true);
     assert_eq!(refused_by(&whole.add(vectors)), Some(17));
     let keys = whole.without(|record| !is_key(record));
     assert_eq!(refused_by(&keys.add(vectors)), Some(17));
@@ -51,7 +41,7 @@ fn of_another(vectors: &mut Vectors, old: &Posted, new: &Posted) {
 /// All records of one kind are old.
 fn one_kind(vectors: &mut Vectors, old: &Posted, new: &Posted) {
     for kind in [KEY, LINE, OPENING, SHARE] {
-        let board = mixed(old, new, |record| record[0] == kind);
+        let board = new.mixed(old, |record| record[0] == kind);
         assert_eq!(refused_by(&board.add(vectors)), Some(17));
     }
 }
@@ -66,7 +56,7 @@ fn renumbered(vectors: &mut Vectors, old: &Posted, new: &Posted) {
         (OPENING, None),
         (SHARE, Some(13)),
     ] {
-        let mut board = mixed(old, new, |record| record[0] == kind);
+        let mut board = new.mixed(old, |record| record[0] == kind);
         for record in &mut board.records {
             record[7] = round;
         }

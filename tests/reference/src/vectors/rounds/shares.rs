@@ -29,7 +29,7 @@ pub fn add(vectors: &mut Vectors, numbers: &mut Numbers) {
 }
 
 /// A share as it is written, and this record judged.
-fn written(vectors: &mut Vectors, figures: Figures, numbers: &mut Numbers) {
+pub fn written(vectors: &mut Vectors, figures: Figures, numbers: &mut Numbers) {
     let case = write_share::Case::any(figures, numbers);
     assert_eq!(case.add(vectors), None);
     let (_, record) = case.written();
@@ -68,7 +68,7 @@ fn numbered(vectors: &mut Vectors, right: &Case) {
 }
 
 /// Of another round and of no form.
-fn form_first(vectors: &mut Vectors, right: &Case) {
+pub fn form_first(vectors: &mut Vectors, right: &Case) {
     for word in [0, 1, 2, 6] {
         let mut case = right.clone();
         case.change(7, |round| round ^ 1);

@@ -26,7 +26,7 @@ pub fn add(vectors: &mut Vectors, numbers: &mut Numbers) {
 }
 
 /// A dealing of exponents that pass in their round: of any exponents about one in q does.
-fn accepted(figures: Figures, numbers: &mut Numbers) -> Case {
+pub fn accepted(figures: Figures, numbers: &mut Numbers) -> Case {
     let round = proper(figures);
     let mut case = Case {
         figures,

@@ -1,0 +1,19 @@
+-- The challenges of "abc" around the first round under the new rule, by computing them from its digest.
+use mathlib.Core.Path.{ap}
+use Rattle.sha256.proofs.Examples.{abc}
+use Rattle.group.specs.Table.{groupOf}
+use Rattle.sharing.specs.Setting.{takesWhole}
+use Rattle.challenge.specs.Exponent.{exponentOf}
+use Rattle.challenge.specs.Message.{challengeOf}
+use Rattle.challenge.specs.Claims.{largeIn, AroundFirst}
+
+pub around-first : AroundFirst
+unfolding challengeOf exponentOf takesWhole groupOf
+around-first =
+    record {
+      before = ap (exponentOf (largeIn 6 7)) abc;
+      at-first = ap (exponentOf (largeIn 7 7)) abc;
+      behind = ap (exponentOf (largeIn 8 7)) abc;
+      in-zero = ap (exponentOf (largeIn 0 1)) abc;
+      without = ap (exponentOf (largeIn 7 0)) abc;
+    }
