@@ -18,12 +18,12 @@ use Rattle.words.proofs.Stages.{met-both, rest-first}
 use Rattle.words.proofs.Tests.{false-true, and-true, pick-false}
 use Rattle.sharing.specs.Setting.{isMember, members}
 use Rattle.sharing.specs.declared.Setting.{Setting}
-use Rattle.records.specs.Layout.{keyKind, lineKind, openingKind, shareKind, dealerOf, memberOf, roundOf}
-use Rattle.records.specs.Layout.{agrees, isKeyRecord, isLineRecord, isOpeningRecord, isShareRecord, isOfRound, recordAt}
+use Rattle.records.specs.Layout.{keyKind, lineKind, openingKind, shareKind, addedKind, dealerOf, memberOf, roundOf}
+use Rattle.records.specs.Layout.{agrees, isKeyRecord, isLineRecord, isOpeningRecord, isShareRecord, recordAt}
 use Rattle.records.specs.Keys.{keyChecks}
 use Rattle.records.proofs.Members.{member-exactly}
 use Rattle.board.specs.Search.{recordsIn}
-use Rattle.board.specs.Board.{isShaped, isBelow, isAbove, inOrder, oneRecordChecks, recordChecks, lengthChecks, formChecks, hasKey, keysIn, boardKeyChecks, boardChecks}
+use Rattle.board.specs.Board.{isShaped, isBelow, isAbove, oneRecordChecks, recordChecks, lengthChecks, formChecks, hasKey, keysIn, boardKeyChecks, boardChecks}
 use Rattle.board.specs.Sorted.{Sorted}
 use Rattle.board.specs.Claims.{RecordsOfRound, BoardOfOtherRound}
 
@@ -42,12 +42,14 @@ reached S b m =
 -- ---- one record
 -- what its kind says of it
 pub record Shaped (n : ℕ) (r : Record) : Type 0 where
+  pub kind : r .w0 ≤ addedKind
   pub dealer : dealerOf r ≤ n
   pub member : memberOf r ≤ n
   pub key : r .w0 ≡ keyKind → dealerOf r ≡ 0
   pub line : r .w0 ≡ lineKind → (isLineRecord r ≡ true) × (1 ≤ dealerOf r) × (1 ≤ memberOf r)
   pub opening : r .w0 ≡ openingKind → memberOf r ≡ 0
-  pub share : r .w0 ≡ shareKind → (isShareRecord r ≡ true) × (1 ≤ dealerOf r) × (1 ≤ memberOf r)
+  pub share : r .w0 ≡ shareKind → (isShareRecord shareKind r ≡ true) × (1 ≤ dealerOf r) × (1 ≤ memberOf r)
+  pub added : r .w0 ≡ addedKind → (isShareRecord addedKind r ≡ true) × (dealerOf r ≡ 0) × (1 ≤ memberOf r)
 
 module _ (n : ℕ) (r : Record) where
   -- a record that agrees with a layout has its kind, dealer and member
@@ -63,13 +65,13 @@ module _ (n : ℕ) (r : Record) where
   key-shaped e h =
       let a = addressed _ e in
       let m = member-exactly n (r .w2) .0 h in
-      record { dealer = omega (arith, a .1); member = m .1; key = λ o. a .1; line = λ o. absurd (omega (arith, a .0)); opening = λ o. absurd (omega (arith, a .0)); share = λ o. absurd (omega (arith, a .0)) }
+      record { kind = omega (arith, a .0); dealer = omega (arith, a .1); member = m .1; key = λ o. a .1; line = λ o. absurd (omega (arith, a .0)); opening = λ o. absurd (omega (arith, a .0)); share = λ o. absurd (omega (arith, a .0)); added = λ o. absurd (omega (arith, a .0)) }
 
   opening-shaped : isOpeningRecord r ≡ true → isMember n (r .w1) ≡ true → Shaped n r
   opening-shaped e h =
       let a = addressed _ e in
       let d = member-exactly n (r .w1) .0 h in
-      record { dealer = d .1; member = omega (arith, a .2); key = λ o. absurd (omega (arith, a .0)); line = λ o. absurd (omega (arith, a .0)); opening = λ o. a .2; share = λ o. absurd (omega (arith, a .0)) }
+      record { kind = omega (arith, a .0); dealer = d .1; member = omega (arith, a .2); key = λ o. absurd (omega (arith, a .0)); line = λ o. absurd (omega (arith, a .0)); opening = λ o. a .2; share = λ o. absurd (omega (arith, a .0)); added = λ o. absurd (omega (arith, a .0)) }
 
   -- a line or a share: dealer and member from 1 to n
   module _ (h : isMember n (r .w1) && isMember n (r .w2) ≡ true) where
@@ -79,12 +81,20 @@ module _ (n : ℕ) (r : Record) where
     line-shaped : isLineRecord r ≡ true → Shaped n r
     line-shaped e =
         let a = addressed _ e in
-        record { dealer = both .0 .1; member = both .1 .1; key = λ o. absurd (omega (arith, a .0)); line = λ o. (e, both .0 .0, both .1 .0); opening = λ o. absurd (omega (arith, a .0)); share = λ o. absurd (omega (arith, a .0)) }
+        record { kind = omega (arith, a .0); dealer = both .0 .1; member = both .1 .1; key = λ o. absurd (omega (arith, a .0)); line = λ o. (e, both .0 .0, both .1 .0); opening = λ o. absurd (omega (arith, a .0)); share = λ o. absurd (omega (arith, a .0)); added = λ o. absurd (omega (arith, a .0)) }
 
-    share-shaped : isShareRecord r ≡ true → Shaped n r
+    share-shaped : isShareRecord shareKind r ≡ true → Shaped n r
     share-shaped e =
         let a = addressed _ e in
-        record { dealer = both .0 .1; member = both .1 .1; key = λ o. absurd (omega (arith, a .0)); line = λ o. absurd (omega (arith, a .0)); opening = λ o. absurd (omega (arith, a .0)); share = λ o. (e, both .0 .0, both .1 .0) }
+        record { kind = omega (arith, a .0); dealer = both .0 .1; member = both .1 .1; key = λ o. absurd (omega (arith, a .0)); line = λ o. absurd (omega (arith, a .0)); opening = λ o. absurd (omega (arith, a .0)); share = λ o. (e, both .0 .0, both .1 .0); added = λ o. absurd (omega (arith, a .0)) }
+
+  added-shaped : isShareRecord addedKind r ≡ true → eqb (r .w1) 0 && isMember n (r .w2) ≡ true → Shaped n r
+  added-shaped e h =
+      let a = addressed _ e in
+      let s = and-true (eqb (r .w1) 0) _ h in
+      let d = eqb-true (r .w1) 0 (s .0) in
+      let m = member-exactly n (r .w2) .0 (s .1) in
+      record { kind = omega (arith, a .0); dealer = omega (arith, d); member = m .1; key = λ o. absurd (omega (arith, a .0)); line = λ o. absurd (omega (arith, a .0)); opening = λ o. absurd (omega (arith, a .0)); share = λ o. absurd (omega (arith, a .0)); added = λ o. (e, d, m .0) }
 
   shaped-true : isShaped n r ≡ true → Shaped n r
   unfolding isShaped
@@ -92,7 +102,8 @@ module _ (n : ℕ) (r : Record) where
       pick-cases (isKeyRecord r) _ _ e key-shaped (λ x.
       pick-cases (isLineRecord r) _ _ x (λ f h. line-shaped h f) (λ y.
       pick-cases (isOpeningRecord r) _ _ y opening-shaped (λ z.
-      pick-cases (isShareRecord r) _ _ z (λ f h. share-shaped h f) (λ w. absurd (false-true w)))))
+      pick-cases (isShareRecord shareKind r) _ _ z (λ f h. share-shaped h f) (λ v.
+      pick-cases (isShareRecord addedKind r) _ _ v added-shaped (λ w. absurd (false-true w))))))
     where
       pick-cases : {P : Type 0} (b x y : Bool) → pick b x y ≡ true → (b ≡ true → x ≡ true → P) → (y ≡ true → P) → P
       pick-cases true x y e f g = f refl e
@@ -150,43 +161,35 @@ members-rise {b} S i j h l =
     below-member (recordAt b i) (s .w0) (s .w1) (s .w2) (below-true (recordAt b i) (s .w0) (s .w1) (s .w2) (S .ascends i j h l))
 
 -- ---- every record
--- what its checks settle of the record i
-record InForm (S : Setting) (b : List ℕ) (i : ℕ) : Type 0 where
-  shaped : isShaped (S .n) (recordAt b i) ≡ true
-  ours : isOfRound (S .round) (recordAt b i) ≡ true
-  ordered : inOrder b i ≡ true
-
 module _ (S : Setting) (b : List ℕ) where
-  record-met : (i : ℕ) → Met (oneRecordChecks S b i) → InForm S b i
-  record-met i h = record { shaped = h .0; ours = h .1 .0; ordered = h .1 .1 .0 }
-
-  records-met : (i m : ℕ) → Met (recordChecks S b i m) → (x : ℕ) → i ≤ x → x < i + m → InForm S b x
-  records-met i zero h x l u = absurd (omega arith)
-  records-met i (suc m) h x l u =
+  -- its checks are met
+  each-met : (i m : ℕ) → Met (recordChecks S b i m) → (x : ℕ) → i ≤ x → x < i + m → Met (oneRecordChecks S b x)
+  each-met i zero h x l u = absurd (omega arith)
+  each-met i (suc m) h x l u =
       let s = met-both (oneRecordChecks S b i) (recordChecks S b (suc i) m) h in
-      ⊎-elim (λ w. subst (InForm S b) w (record-met i (s .0))) (λ w. records-met (suc i) m (s .1) x w (omega arith)) (eq-or-lt-of-le l)
+      ⊎-elim (λ w. subst (λ (y : ℕ). Met (oneRecordChecks S b y)) w (s .0)) (λ w. each-met (suc i) m (s .1) x w (omega arith)) (eq-or-lt-of-le l)
 
   module _ (form : Met (formChecks S b)) where
-    record-in-form : (i : ℕ) → i < recordsIn b → InForm S b i
+    pub record-met : (i : ℕ) → i < recordsIn b → Met (oneRecordChecks S b i)
     unfolding formChecks
-    record-in-form i h = records-met 0 (recordsIn b) (form .1) i (omega arith) (omega arith)
+    record-met i h = each-met 0 (recordsIn b) (form .1) i (omega arith) (omega arith)
 
     pub few-records : recordsIn b ≤ 2048
     unfolding formChecks
     few-records = leb-true _ _ (and-true (eqb (length b % 32) 0) _ (form .0) .1)
 
     pub shapes : (i : ℕ) → i < recordsIn b → Shaped (S .n) (recordAt b i)
-    shapes i h = shaped-true (S .n) (recordAt b i) (record-in-form i h .shaped)
+    shapes i h = shaped-true (S .n) (recordAt b i) (record-met i h .0)
 
     pub of-round : (i : ℕ) → i < recordsIn b → roundOf (recordAt b i) ≡ S .round
-    of-round i h = eqb-true (roundOf (recordAt b i)) (S .round) (record-in-form i h .ours)
+    of-round i h = eqb-true (roundOf (recordAt b i)) (S .round) (record-met i h .1 .0)
 
     next-above : (i : ℕ) → suc i < recordsIn b → isAbove (recordAt b i) (recordAt b (suc i)) ≡ true
     next-above i h =
         let p : i ≡ suc i - 1 = omega arith in
         ap (λ (j : ℕ). isAbove (recordAt b j) (recordAt b (suc i))) p
         ∙ sym (pick-false (eqb (suc i) 0) true _ (ne-eqb (suc i) 0 (λ e. omega arith)))
-        ∙ record-in-form (suc i) h .ordered
+        ∙ record-met (suc i) h .1 .1 .0
 
     above : (i j : ℕ) → i < j → j < recordsIn b → isAbove (recordAt b i) (recordAt b j) ≡ true
     above i zero h l = absurd (not-suc-le-zero h)

@@ -11,7 +11,7 @@ use Rattle.words.specs.declared.Record.{Record}
 use Rattle.sharing.specs.Setting.{judged, judgedElse, isMember, members}
 use Rattle.sharing.specs.declared.Round.{Round}
 use Rattle.sharing.specs.declared.Setting.{Setting}
-use Rattle.records.specs.Layout.{keyKind, lineKind, openingKind, dealerOf, memberOf, yOf}
+use Rattle.records.specs.Layout.{keyKind, lineKind, openingKind, shareKind, addedKind, dealerOf, memberOf, yOf}
 use Rattle.records.specs.Layout.{isKeyRecord, isLineRecord, isOpeningRecord, isShareRecord, isOfRound, recordAt}
 use Rattle.records.specs.Keys.{keyChecks}
 use Rattle.board.specs.Search.{first, recordsIn}
@@ -23,7 +23,8 @@ isShaped n r =
     pick (isKeyRecord r) (isMember n (memberOf r))
     (pick (isLineRecord r) (isMember n (dealerOf r) && isMember n (memberOf r))
     (pick (isOpeningRecord r) (isMember n (dealerOf r))
-    (pick (isShareRecord r) (isMember n (dealerOf r) && isMember n (memberOf r)) false)))
+    (pick (isShareRecord shareKind r) (isMember n (dealerOf r) && isMember n (memberOf r))
+    (pick (isShareRecord addedKind r) (eqb (dealerOf r) 0 && isMember n (memberOf r)) false))))
 
 -- a record's address is its kind, dealer and member; r is below the address k, d, m: by kind, then dealer, then member
 unfoldable pub isBelow : Record → ℕ → ℕ → ℕ → Bool

@@ -4,6 +4,8 @@ ghost use Rattle.words.specs.Checks.{refusal};
 ghost use Rattle.board.specs.Search.{recordsIn};
 ghost use Rattle.board.specs.Board.{isShaped, isBelow, recordChecks, formChecks};
 use crate::search::records;
+use records::ADDED;
+use records::SHARE;
 use records::is_key_record;
 use records::is_line_record;
 use records::is_of_round;
@@ -27,8 +29,11 @@ fn is_shaped(n: u32, r: Record) -> bool
     if is_opening_record(r) {
         return is_member(n, r.w1);
     }
-    if is_share_record(r) {
+    if is_share_record(SHARE, r) {
         return is_member(n, r.w1) && is_member(n, r.w2);
+    }
+    if is_share_record(ADDED, r) {
+        return r.w1 == 0 && is_member(n, r.w2);
     }
     false
 }

@@ -17,6 +17,9 @@ dealingTag = 0x44
 abbrev pub shareTag : ℕ
 shareTag = 0x53
 
+abbrev pub addedTag : ℕ
+addedTag = 0x41
+
 abbrev pub coefficientTag : ℕ
 coefficientTag = 0x50
 
@@ -44,7 +47,7 @@ dealingFigures n v Y a1 a2 = bytesOver (λ i. v i ∷ Y i ∷ a1 i ∷ a2 i ∷ 
 unfoldable pub dealingMessage : Setting → ℕ → (ℕ → ℕ) → (ℕ → ℕ) → (ℕ → ℕ) → (ℕ → ℕ) → List ℕ
 dealingMessage S d v Y a1 a2 = message dealingTag S d (dealingFigures (S .n) v Y a1 a2)
 
--- an opened share Z (the paper's S) of member i: y, Y, Z, a1, a2
+-- an opened or added share Z (the paper's S) of member i: y, Y, Z, a1, a2
 abbrev pub shareFigures : ℕ → ℕ → ℕ → ℕ → ℕ → ℕ → List ℕ
 shareFigures i y Y Z a1 a2 = i ∷ wordsBytes (y ∷ Y ∷ Z ∷ a1 ∷ a2 ∷ [])
 

@@ -19,6 +19,8 @@ const DEALING_TAG: u8 = 0x44;
 
 pub const SHARE_TAG: u8 = 0x53;
 
+pub const ADDED_TAG: u8 = 0x41;
+
 const COEFFICIENT_TAG: u8 = 0x50;
 
 // The challenge of the first k bytes of m.
@@ -103,7 +105,7 @@ pub fn dealing_challenge(
     challenge(s, &m, at + 16 * n)
 }
 
-// The challenge of an opened share of a member, under a tag: over y, Y, the opened share, a1 and a2.
+// The challenge of a decrypted share of a member, opened or added by its tag: over y, Y, the decrypted share, a1 and a2.
 // Internal: callers ensure a proper setting, and a dealer and a member at most n.
 pub fn share_challenge(s: Setting, tag: u8, f: ShareFigures) -> Exponent
     requires { ⌜ (ProperSetting s) × (f .dealer ≤ s .n) × (f .member ≤ s .n) ⌝ }

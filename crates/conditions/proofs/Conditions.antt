@@ -7,36 +7,42 @@ use Prim.Native.Nat.{ℕ, zero, suc, _<_, _≤_}
 use native.Mathlib.Omega.{arith}
 use borrow.Author.Tests.{eqb-true, eq-eqb}
 use lib.Dec.{eqb}
-use lib.ListN.{getD}
+use lib.ListN.{length, getD, take}
 use Rattle.words.specs.Choice.{pick}
-use Rattle.words.specs.Lists.{upFrom}
-use Rattle.words.specs.Checks.{Met}
+use Rattle.words.specs.Lists.{All, map, upFrom}
+use Rattle.words.specs.Checks.{Outcome, value, outcome, Met}
 use Rattle.words.proofs.Lists.{up-length, up-at}
 use Rattle.words.proofs.Tests.{false-true, and-true, all-at, pick-true}
 use Rattle.field.specs.Residue.{mul}
 use Rattle.field.specs.Polynomial.{valueAt}
 use Rattle.group.specs.Table.{groupOf}
+use Rattle.group.specs.declared.Element.{Element}
 use Rattle.sharing.specs.Carried.{Carries}
 use Rattle.sharing.specs.Figures.{smallRound, small}
+use Rattle.sums.specs.Sum.{sumOf}
 use Rattle.sharing.proofs.Figures.{small-proper, carried-figures, refused-uncarried}
-use Rattle.records.specs.Layout.{shareKind, dealerOf, memberOf, entry, recordAt}
+use Rattle.records.specs.Layout.{shareKind, dealerOf, memberOf, ZOf, entry, recordAt}
 use Rattle.dealing.specs.Dealing.{vIn}
+use Rattle.share.specs.Share.{openedForm}
 use Rattle.board.specs.Search.{recordsIn}
 use Rattle.board.specs.Board.{boardChecks, linesOf}
 use Rattle.board.proofs.Numbers.{board-met}
-use Rattle.verdicts.specs.Verdict.{judges, isAccepted, commitmentsOf, isShareBy, secretBy}
-use Rattle.verdicts.specs.Draw.{drawOf, drawOn}
+use Rattle.verdicts.specs.Shares.{judges, recoveredFrom}
+use Rattle.verdicts.specs.Verdict.{isAccepted, commitmentsOf, encryptedOf, isShareBy, secretBy}
+use Rattle.verdicts.specs.Added.{addedBy}
+use Rattle.verdicts.specs.Draw.{countAccepted, anyStuck, secretsProduct, endChecks, drawOf, drawOn}
 use Rattle.verdicts.proofs.ShareAnswers.{share-address}
 use Rattle.verdicts.specs.declared.Secret.{Secret}
 use Rattle.verdicts.specs.declared.Secret.the-variants.{Opened, Recovered, Stuck}
+use Rattle.verdicts.specs.declared.Verdict.{Verdict}
 use Rattle.verdicts.specs.declared.Verdict.the-variants.{None, Accepted}
-use Rattle.demand3.specs.Claims.{Revealed, powerOfH, VerdictRule, Recoverable, AllRecoverable, SameDealings}
+use Rattle.demand3.specs.Claims.{Revealed, powerOfH, VerdictRule, SomeStuck, Recoverable, AllRecoverable, AddedTrue, sumOn, SameDealings}
 use Rattle.demand3.proofs.VerdictCases.{verdict-rules}
 use Rattle.demand3.proofs.Endings.{reached-draw}
 use Rattle.demand3.proofs.TwoBoards.{draw-by-round}
-use Rattle.conditions.specs.Boards.{uncarriedLow, uncarriedHigh}
-use Rattle.conditions.specs.Claims.{polynomialOf, ConditionsMet, OtherConditions, AllCarried, AllTrue, CarriedNeeded, TrueNeeded}
-use Rattle.conditions.proofs.Known.{opened, Known, everyShare, isTrueShare, isTrueToLine, all-known}
+use Rattle.conditions.specs.Boards.{uncarriedLow, uncarriedHigh, addedBoard}
+use Rattle.conditions.specs.Claims.{polynomialOf, DrawIs, ConditionsMet, OtherConditions, AllCarried, AllTrue, CarriedNeeded, TrueNeeded, AddedMet, OtherAdded, AddedTrueNeeded}
+use Rattle.conditions.proofs.Known.{opened, Known, two-accepted, everyShare, isTrueShare, isTrueToLine, all-known, AddedKnown, all-added}
 
 -- ---- a fact of each of four members
 by-four : (P : ℕ → Type 0) → P 1 → P 2 → P 3 → P 4 → (d : ℕ) → 1 ≤ d → d ≤ 4 → P d
@@ -53,6 +59,12 @@ Found (Opened v) = Unit {0}
 Found (Recovered v) = Unit {0}
 Found Stuck = ⊥
 
+-- how the board ends, by the verdicts and the records of accepted added shares
+abbrev endOf : List ℕ → List Verdict → List ℕ → Outcome Element
+endOf b vs is =
+    outcome (endChecks 2 (countAccepted vs) (anyStuck vs) (length is))
+    (pick (anyStuck vs) (record { 0 = recoveredFrom (groupOf 1) b (take 2 is) }) (record { 0 = secretsProduct 23 vs }))
+
 -- ---- one board
 module _ {b vs : List ℕ} {s : Secret} (K : Known b vs s) where
   reached : Met (boardChecks small b)
@@ -67,14 +79,14 @@ module _ {b vs : List ℕ} {s : Secret} (K : Known b vs s) where
       by-four (λ d. isAccepted judges small b d ≡ true → P d) (λ a. p) (λ a. q)
       (λ a. absurd (false-true (sym (K .third .0) ∙ a))) (λ a. absurd (false-true (sym (K .fourth .0) ∙ a)))
 
-  draw : drawOn judges smallRound b ≡ drawOf 23 2 (Accepted s ∷ Accepted (opened 3) ∷ None ∷ None ∷ [])
-  unfolding groupOf
+  draw : drawOn judges smallRound b ≡ endOf b (Accepted s ∷ Accepted (opened 3) ∷ None ∷ None ∷ []) (addedBy judges small b)
+  unfolding groupOf drawOf
   draw =
       let v = rule 1 .accepted s .1 (K .first, K .first-secret) in
       let w = rule 2 .accepted (opened 3) .1 (K .second, K .second-secret) in
       draw-by-round judges smallRound .draw-in (carried-figures .0) b
       ∙ reached-draw judges small b reached
-      ∙ (λ j. drawOf 23 2 (v j ∷ w j ∷ K .third .1 j ∷ K .fourth .1 j ∷ []))
+      ∙ (λ j. endOf b (v j ∷ w j ∷ K .third .1 j ∷ K .fourth .1 j ∷ []) (addedBy judges small b))
 
   revealed-by : (d : ℕ) (r : Secret) → Found r → secretBy judges small b d ≡ r → Revealed judges small b d
   revealed-by d (Opened v) f e = inl (rule d .opened v .0 e .0)
@@ -114,7 +126,7 @@ same {b} {c} K L =
 module _ (b : List ℕ) (f : ℕ → Bool) (t : everyShare b f ≡ true) where
   share-passes : (d i : ℕ) → i < recordsIn b → isShareBy judges small b d i ≡ true → (1 ≡ d) × (f i ≡ true)
   share-passes d i h e =
-      let s = share-address judges small b d i e in
+      let s = share-address judges small b (openedForm d) (encryptedOf small b d) i e in
       let g : ℕ → Bool = λ k. pick (eqb (recordAt b k .w0) shareKind) (eqb (dealerOf (recordAt b k)) 1 && f k) true in
       let k : getD (upFrom 0 (recordsIn b)) i 0 ≡ i = up-at 0 (recordsIn b) i h ∙ omega arith in
       let at = sym (ap g k) ∙ all-at g (upFrom 0 (recordsIn b)) i 0 (rw up-length h) t in
@@ -149,7 +161,7 @@ recoverable {b} K f t =
 
 -- ---- the claims
 pub conditions-met : ConditionsMet
-unfolding drawOf mul
+unfolding mul
 conditions-met =
     let A = all-known in
     record {
@@ -168,7 +180,7 @@ uncarried f C =
     (subst (Carries small f) (all-known .low-known .commitments .0) C)
 
 pub carried-needed : CarriedNeeded
-unfolding drawOf mul
+unfolding mul
 carried-needed =
     let A = all-known in (
       uncarried,
@@ -180,7 +192,7 @@ carried-needed =
     )
 
 pub true-needed : TrueNeeded
-unfolding drawOf mul
+unfolding mul
 true-needed =
     let A = all-known in (
       (other-conditions (A .silent-known) tt, other-conditions (A .forged-known) tt, same (A .silent-known) (A .forged-known)),
@@ -189,3 +201,57 @@ true-needed =
       draw (A .silent-known),
       draw (A .forged-known),
     )
+
+-- ---- added shares
+module _ {b : List ℕ} (K : Known b (9 ∷ 16 ∷ 8 ∷ 4 ∷ []) Stuck) {v : ℕ} (A : AddedKnown b v) where
+  first-stuck : SomeStuck judges small b
+  first-stuck = (1, omega arith, omega arith, rule K 1 .accepted Stuck .1 (K .first, K .first-secret))
+
+  added-enough : 2 ≤ length (addedBy judges small b)
+  added-enough = rw (A .records) (omega arith)
+
+  added-drawn : DrawIs b v
+  added-drawn =
+      draw K ∙ ap (endOf b (Accepted Stuck ∷ Accepted (opened 3) ∷ None ∷ None ∷ [])) (A .records)
+      ∙ (λ j. value (record { 0 = A .recovers j }))
+
+  other-added : OtherAdded b
+  other-added = record { reached = reached K; carried = carried K; stuck = first-stuck; enough = added-enough }
+
+added-true : AddedTrue judges small addedBoard polynomialOf
+added-true =
+    let K = all-known .added-known in
+    let A = all-added in
+    let f : sumOn judges small addedBoard polynomialOf ≡ 9 ∷ 9 ∷ [] = ap (λ (ds : List ℕ). sumOf small (map polynomialOf ds)) (two-accepted K) ∙ A .sum in
+    record {
+      reached = reached K;
+      carried = of-accepted K _ (carries K .0) (carries K .1);
+      stuck = first-stuck K (A .honest);
+      enough = added-enough K (A .honest);
+      true-shares =
+          subst
+          (λ (is : List ℕ). All (λ i. ZOf (recordAt addedBoard i) ≡ powerOfH (small .group) (valueAt (small .group .q) (sumOn judges small addedBoard polynomialOf) (memberOf (recordAt addedBoard i)))) (take 2 is))
+          (sym (A .honest .records))
+          (subst
+          (λ (g : List ℕ). All (λ i. ZOf (recordAt addedBoard i) ≡ powerOfH (small .group) (valueAt (small .group .q) g (memberOf (recordAt addedBoard i)))) (13 ∷ 14 ∷ []))
+          (sym f) (A .shares .0, (A .shares .1, tt)));
+    }
+
+pub added-met : AddedMet
+added-met =
+    let K = all-known .added-known in
+    record {
+      added = added-true;
+      same = same (all-known .opened-known) K;
+      count = rw (K .first, K .second, K .third .0, K .fourth .0) (omega arith);
+      draw = added-drawn K (all-added .honest);
+      multiplied-vs = all-added .multiplied-vs;
+      sum-carries = all-added .sum-carries;
+    }
+
+pub added-true-needed : AddedTrueNeeded
+added-true-needed =
+    let K = all-known .added-known in
+    let L = all-known .added-forged-known in
+    let A = all-added in
+    (other-added K (A .honest), other-added L (A .forged), same K L, added-drawn K (A .honest), added-drawn L (A .forged))

@@ -2,7 +2,7 @@
 use mathlib.Core.List.{List, _++_}
 use Prim.Native.Nat.{ℕ}
 use Rattle.words.specs.Bytes.{recordBytes}
-use Rattle.records.specs.Layout.{keyLayout, lineLayout, openingLayout, shareLayout}
+use Rattle.records.specs.Layout.{shareKind, addedKind, keyLayout, lineLayout, openingLayout, shareLayout}
 
 -- ---- the bytes of a record of each kind
 abbrev pub key : ℕ → ℕ → List ℕ
@@ -15,7 +15,10 @@ abbrev pub opening : ℕ → ℕ → List ℕ
 opening d u = recordBytes (openingLayout d u 0)
 
 abbrev pub share : ℕ → ℕ → ℕ → ℕ → ℕ → List ℕ
-share d i Z c r = recordBytes (shareLayout d i Z c r 0)
+share d i Z c r = recordBytes (shareLayout shareKind d i Z c r 0)
+
+abbrev pub added : ℕ → ℕ → ℕ → ℕ → List ℕ
+added i Z c r = recordBytes (shareLayout addedKind 0 i Z c r 0)
 
 -- ---- what the boards are made of
 abbrev pub keys : List ℕ
@@ -57,3 +60,12 @@ uncarriedLow = boardOf uncarriedLines (opening 2 6 ++ (share 1 1 13 9 4 ++ share
 -- the same, but members 1 and 3 have opened theirs
 abbrev pub uncarriedHigh : List ℕ
 uncarriedHigh = boardOf uncarriedLines (opening 2 6 ++ (share 1 1 13 9 4 ++ share 1 3 9 3 6))
+
+-- ---- boards with added shares: the first dealer is silent, and nobody has opened a share of his dealing
+-- members 1 and 2 have posted added shares
+abbrev pub addedBoard : List ℕ
+addedBoard = boardOf firstLines (opening 2 6 ++ (added 1 4 4 7 ++ added 2 8 4 8))
+
+-- the same, but member 1 has forged his: 16 in place of 4
+abbrev pub forgedAdded : List ℕ
+forgedAdded = boardOf firstLines (opening 2 6 ++ (added 1 16 2 3 ++ added 2 8 4 8))

@@ -1,5 +1,6 @@
 -- Why the conditions of the sentence on two boards stand: there are boards that meet them all, and without either of the two that the
--- judges do not test, that polynomials carry the dealings and that accepted shares are true, two boards may end in two draws.
+-- judges do not test, that polynomials carry the dealings and that accepted shares are true, two boards may end in two draws. The same of
+-- added shares.
 use mathlib.Core.Path.{_≡_}
 use mathlib.Core.Bool.{true}
 use mathlib.Core.List.{List, [], _∷_}
@@ -16,10 +17,12 @@ use Rattle.records.specs.Layout.{memberOf, ZOf, recordAt}
 use Rattle.dealing.specs.Dealing.{vIn}
 use Rattle.board.specs.Search.{recordsIn}
 use Rattle.board.specs.Board.{boardChecks, linesOf}
-use Rattle.verdicts.specs.Verdict.{judges, isAccepted, commitmentsOf, isShareBy}
+use Rattle.verdicts.specs.Shares.{judges}
+use Rattle.verdicts.specs.Verdict.{isAccepted, commitmentsOf, isShareBy}
+use Rattle.verdicts.specs.Added.{acceptedDealers, multiplied, addedBy}
 use Rattle.verdicts.specs.Draw.{drawOn}
-use Rattle.demand3.specs.Claims.{Revealed, powerOfH, acceptedDealers, AllRecoverable, SameDealings}
-use Rattle.conditions.specs.Boards.{openedBoard, silentBoard, forgedBoard, uncarriedLow, uncarriedHigh}
+use Rattle.demand3.specs.Claims.{Revealed, powerOfH, SomeStuck, AllRecoverable, AddedTrue, SameDealings}
+use Rattle.conditions.specs.Boards.{openedBoard, silentBoard, forgedBoard, uncarriedLow, uncarriedHigh, addedBoard, forgedAdded}
 
 -- the polynomials 3 + 5 times the member number for dealer 1, and 6 + 4 times it for the others
 abbrev pub polynomialOf : ℕ → List ℕ
@@ -68,3 +71,25 @@ CarriedNeeded =
 -- ---- that accepted shares are true cannot be dropped: all dealings are carried, and the draws are 2 and 9
 abbrev pub TrueNeeded : Type 0
 TrueNeeded = Compared silentBoard forgedBoard × AllCarried silentBoard × AllCarried forgedBoard × DrawIs silentBoard 2 × DrawIs forgedBoard 9
+
+-- ---- added shares: the conditions are met where the first dealer is silent and his dealing is stuck, and the draw is 2 too
+pub record AddedMet : Type 0 where
+  pub added : AddedTrue judges small addedBoard polynomialOf
+  pub same : SameDealings judges small small openedBoard addedBoard
+  pub count : 2 ≤ length (acceptedDealers judges small addedBoard)
+  pub draw : DrawIs addedBoard 2
+  -- the commitments multiplied, which 9 + 9 times the member number carries
+  pub multiplied-vs : multiplied judges small addedBoard vIn ≡ 8 ∷ 12 ∷ 18 ∷ 4 ∷ []
+  pub sum-carries : Carries small (9 ∷ 9 ∷ []) (8 ∷ 12 ∷ 18 ∷ 4 ∷ [])
+
+-- all conditions on a board that ends by added shares but that these are true
+pub record OtherAdded (b : List ℕ) : Type 0 where
+  pub reached : Met (boardChecks small b)
+  pub carried : AllCarried b
+  pub stuck : SomeStuck judges small b
+  pub enough : 2 ≤ length (addedBy judges small b)
+
+-- that added shares are true cannot be dropped: the draws are 2 and 9
+abbrev pub AddedTrueNeeded : Type 0
+AddedTrueNeeded =
+    OtherAdded addedBoard × OtherAdded forgedAdded × SameDealings judges small small addedBoard forgedAdded × DrawIs addedBoard 2 × DrawIs forgedAdded 9

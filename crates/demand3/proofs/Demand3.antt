@@ -1,6 +1,6 @@
 -- The theorems of demand 3, one for each of its sentences.
 use Rattle.sharing.proofs.Theorems.{always-carried, uncarried-one-value, carried-passes, carried-exactly, opening-exactly, quorum-recovers, round-by-setting}
-use Rattle.verdicts.specs.Verdict.{judges}
+use Rattle.verdicts.specs.Shares.{judges}
 use Rattle.demand3.specs.Demand3.{Demand3}
 use Rattle.demand3.proofs.TwoBoards.{same-draw, same-draw-across, draw-by-round}
 

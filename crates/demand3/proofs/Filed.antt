@@ -1,17 +1,18 @@
 -- Boards filed before records had a round's number: the checks of 01 differ from those of round 0 in the number of a test that holds where
--- word 7 is 0, and the messages and their exponents are the same, so both answer the same, and so do the verdicts and the draw.
+-- word 7 is 0, and the messages and their exponents are the same, so both answer the same, and so do the verdicts. Without records of
+-- kind 5 the table of 01 is the same, and a stuck dealing is the end, so the draw is the same too.
 use mathlib.Core.Path.{_≡_, refl, sym, ap, _∙_}
-use mathlib.Core.Bool.{Bool, true, false, _&&_}
+use mathlib.Core.Bool.{Bool, true, false, not, _&&_}
 use mathlib.Core.List.{List, [], _∷_, _++_}
 use mathlib.Core.Logic.{_⊎_, inl, inr}
 use Prim.Native.Nat.{ℕ, zero, suc, _+_, _-_, _≤_, _<_}
 use native.Mathlib.Omega.{arith}
-use borrow.Author.Tests.{eq-eqb, eqb-true}
-use lib.ListN.{length, take}
-use lib.Dec.{ltb, eqb}
+use borrow.Author.Tests.{eq-eqb, ne-eqb, eqb-true, lt-leb}
+use lib.ListN.{length}
+use lib.Dec.{leb, eqb}
 use Rattle.words.specs.Choice.{pick}
 use Rattle.words.specs.Lists.{all, map, upFrom}
-use Rattle.words.specs.Checks.{Check, _unless_, Outcome, outcome, isValue, Met, FirstUnmet}
+use Rattle.words.specs.Checks.{Check, _unless_, Outcome, refused, outcome, isValue, Met, FirstUnmet}
 use Rattle.words.specs.Bytes.{recordIn}
 use Rattle.words.specs.declared.Record.{Record}
 use Rattle.words.proofs.Lists.{All-to, All-each, map-same, up-within}
@@ -22,36 +23,42 @@ use Rattle.words.proofs.Alike.{Alike, alike-behind, alike-before, alike-outcome
 use Rattle.group.specs.Power.{pow}
 use Rattle.group.specs.Element.{isElement, isExponent}
 use Rattle.group.specs.declared.Element.{Element}
-use Rattle.sharing.specs.Setting.{ProperSetting, members}
-use Rattle.sharing.specs.Answer.{degreeProduct, recovered}
+use Rattle.sharing.specs.Setting.{ProperSetting, isMember, members}
+use Rattle.sharing.specs.Answer.{degreeProduct}
 use Rattle.sharing.specs.declared.Setting.{Setting}
-use Rattle.records.specs.Layout.{shareKind, dealerOf, memberOf, uOf, ZOf, shareC, shareR, entry, recordAt, recordOf}
+use Rattle.records.specs.Layout.{shareKind, addedKind, agrees, isKeyRecord, isLineRecord, isOpeningRecord, isShareRecord}
+use Rattle.records.specs.Layout.{dealerOf, memberOf, uOf, ZOf, shareC, shareR, entry, recordAt, recordOf}
 use Rattle.records.specs.Keys.{keyChecks}
 use Rattle.records.proofs.Members.{members-exactly}
 use Rattle.challenge.specs.Message.{shareTag, challengeOf, checkPolynomial}
 use Rattle.challenge.proofs.Challenges.{challenge-by-rule, round-zero}
 use Rattle.equality.specs.Equality.{announced}
 use Rattle.dealing.specs.Dealing.{addressChecks, judgeSizeChecks, vIn, YIn, rIn, cIn, vsIn, lineChecks, dealingFormChecks, recomputed, rangeChecks, equationChecks, lineFigureChecks, judgeDealingIn}
-use Rattle.share.specs.Share.{membersChecks, shareInputChecks, shareFormChecks, shareAdmissionChecks, shareRecomputed, shareFigureChecks, judgeShareIn}
+use Rattle.share.specs.Share.{openedForm, addedForm, isDealer, membersChecks, shareInputChecks, shareFormChecks, shareAdmissionChecks, shareRecomputed, shareFigureChecks, judgeShareIn}
 use Rattle.board.specs.Search.{recordsIn}
-use Rattle.board.specs.Board.{recordChecks, lengthChecks, formChecks, boardKeyChecks, boardChecks, lineCount, linesOf, openingPlace}
+use Rattle.board.specs.Board.{isShaped, recordChecks, lengthChecks, formChecks, boardKeyChecks, boardChecks, lineCount, linesOf, openingPlace}
 use Rattle.board.proofs.Searches.{filter-same}
 use Rattle.board.proofs.Order.{reached}
 use Rattle.board.proofs.LineRun.{line-record}
-use Rattle.verdicts.specs.Verdict.{Judges, judges, dealingAnswer, shareAnswer, isShareBy, sharesBy, fromShares, isOpened, secretBy, verdictFrom, verdictOn, verdictsOn}
-use Rattle.verdicts.specs.Draw.{secretsProduct, drawChecks, boardProduct, drawIn}
-use Rattle.verdicts.specs.declared.Secret.the-variants.{Opened, Recovered, Stuck}
+use Rattle.verdicts.specs.Shares.{Judges, judges, shareAnswer, isShareIn, sharesIn, fromLowest}
+use Rattle.verdicts.specs.Verdict.{dealingAnswer, encryptedOf, isShareBy, sharesBy, secretFrom, fromShares, isOpened, secretBy, verdictFrom, verdictOn, verdictsOn}
+use Rattle.verdicts.specs.Added.{multiplied, addedBy}
+use Rattle.verdicts.specs.Draw.{countAccepted, anyStuck, secretsProduct, drawValue, drawIn}
+use Rattle.verdicts.specs.declared.Secret.the-variants.{Opened}
+use Rattle.verdicts.specs.declared.Verdict.{Verdict}
 use Rattle.verdicts.specs.declared.Verdict.the-variants.{None}
-use Rattle.demand3.specs.Filed.{filedRecordChecks, filedBoardChecks, filedExponent, filedLineChecks, filedEquationChecks, filedDealing, filedShareChecks, filedShareFigures, filedShare, filedJudges, filedDraw, FiledAsBefore}
+use Rattle.verdicts.proofs.ShareAnswers.{none-of-kind}
+use Rattle.demand3.specs.Filed.{filedShaped, filedEndChecks, filedRecordChecks, filedBoardChecks, filedExponent, filedLineChecks, filedEquationChecks, filedDealing, filedShareChecks, filedShareFigures, filedShare, filedJudges, filedDraw, FiledAsBefore}
+use Rattle.demand3.proofs.Endings.{refused-before}
 
 -- ---- two judges that answer the same on a board give it the same verdict
 pick-same : {A : Type 0} (t : Bool) (x y z : A) → (t ≡ true → x ≡ y) → pick t x z ≡ pick t y z
 pick-same true x y z h = h refl
 pick-same false x y z h = refl
 
-module _ (J K : Judges) (S : Setting) (b : List ℕ) (d : ℕ) (share : (i : ℕ) → i < recordsIn b → shareAnswer J S b d i ≡ shareAnswer K S b d i) where
+module _ (J K : Judges) (S : Setting) (b : List ℕ) (d : ℕ) (share : (i : ℕ) → i < recordsIn b → shareAnswer J S b (openedForm d) (encryptedOf S b d) i ≡ shareAnswer K S b (openedForm d) (encryptedOf S b d) i) where
   same-shares : sharesBy J S b d ≡ sharesBy K S b d
-  unfolding sharesBy isShareBy
+  unfolding sharesIn isShareIn
   same-shares =
       filter-same (isShareBy J S b d) (isShareBy K S b d) (upFrom 0 (recordsIn b))
       (All-to (upFrom 0 (recordsIn b))
@@ -61,12 +68,10 @@ module _ (J K : Judges) (S : Setting) (b : List ℕ) (d : ℕ) (share : (i : ℕ
   same-secret : secretBy J S b d ≡ secretBy K S b d
   unfolding secretBy fromShares
   same-secret =
-      let given : (ℕ → ℕ) → List ℕ → List ℕ = λ f is. map f (take (S .t) is) in
       ap
       (λ (is : List ℕ).
       pick (isOpened S b d) (Opened (record { 0 = pow (S .group .p) (S .group .h .0) (uOf (recordAt b (openingPlace b d))) }))
-      (pick (ltb (length is) (S .t)) Stuck
-      (Recovered (record { 0 = recovered (S .group) (given (λ i. memberOf (recordAt b i)) is) (given (λ i. ZOf (recordAt b i)) is) }))))
+      (secretFrom (fromLowest S b is)))
       same-shares
 
   same-verdict : (lineCount b d ≡ S .n → dealingAnswer J S b d ≡ dealingAnswer K S b d) → verdictOn J S b d ≡ verdictOn K S b d
@@ -98,7 +103,7 @@ module _ (S : Setting) (z : S .round ≡ 0) (o : S .whole ≡ false) where
       ∷ 10 unless all (λ i. eqb (cIn b i) (filed-exponent (m .dealing (vIn b) (YIn b) a1 a2) j)) (members (S .n))
       ∷ []
 
-  filed-figures : (d i y Y : ℕ) (r : Record) → shareFigureChecks shareTag S d i y Y r ≡ filedShareFigures S d i y Y r
+  filed-figures : (d i y Y : ℕ) (r : Record) → shareFigureChecks S (openedForm d) i y Y r ≡ filedShareFigures S d i y Y r
   unfolding shareFigureChecks shareRecomputed
   filed-figures d i y Y r = λ j.
       let G = S .group in
@@ -126,53 +131,98 @@ module _ (S : Setting) (z : S .round ≡ 0) (o : S .whole ≡ false) where
       alike-outcome (own ++ figures) (filed ++ figures) tt (alike-before own filed figures form)
       ∙ ap (λ (es : List Check). outcome (filed ++ (rangeChecks S (vIn b) (YIn b) (rIn b) (cIn b) ++ es)) tt) (filed-equations d ys b)
 
-  filed-share : (d i y Y : ℕ) (b : List ℕ) → recordIn b .w7 ≡ 0 → judgeShareIn S d i y Y b ≡ filedShare S d i y Y b
-  unfolding judgeShareIn shareAdmissionChecks shareFormChecks
+  filed-share : (d i y Y : ℕ) (b : List ℕ) → recordIn b .w7 ≡ 0 → judgeShareIn S (openedForm d) i y Y b ≡ filedShare S d i y Y b
+  unfolding judgeShareIn shareAdmissionChecks shareFormChecks membersChecks isDealer
   filed-share d i y Y b w =
-      let front = membersChecks S d i ++ shareInputChecks (S .group) y Y b in
-      let figures = shareFigureChecks shareTag S d i y Y (recordIn b) in
+      let front = membersChecks S (openedForm d) i ++ shareInputChecks (S .group) y Y b in
+      let figures = shareFigureChecks S (openedForm d) i y Y (recordIn b) in
       let k = word-alike (recordIn b .w7) w in
-      let own = shareFormChecks (S .round) d i (recordIn b) in
+      let own = shareFormChecks (S .round) (openedForm d) i (recordIn b) in
       let filed = filedShareChecks d i (recordIn b) in
       alike-outcome ((front ++ own) ++ figures) ((front ++ filed) ++ figures) (record { 0 = ZOf (recordIn b) })
       (alike-before (front ++ own) (front ++ filed) figures (alike-behind front own filed (refl, λ e. refl, (k .0, k .1, tt))))
       ∙ ap (λ (es : List Check). outcome ((front ++ filed) ++ es) (record { 0 = ZOf (recordIn b) })) (filed-figures d i y Y (recordIn b))
 
-  module _ (P : ProperSetting S) (b : List ℕ) (w : (i : ℕ) → i < recordsIn b → recordAt b i .w7 ≡ 0) where
-    records-alike : (i m : ℕ) → i + m ≤ recordsIn b → Alike (recordChecks S b i m) (filedRecordChecks (S .n) b i m)
-    records-alike i zero h = tt
-    records-alike i (suc m) h =
-        let k = word-alike (recordAt b i .w7) (w i (omega arith)) in
-        (refl, λ e. refl, (k .0, k .1, (refl, λ e. refl, records-alike (suc i) m (omega arith))))
+-- ---- without records of kind 5
+and-false : (x y : Bool) → x ≡ false → x && y ≡ false
+and-false x y e = ap (λ (t : Bool). t && y) e
 
-    board-alike : Alike (boardChecks S b) (filedBoardChecks S b)
-    unfolding boardChecks formChecks boardKeyChecks keyChecks
-    board-alike =
-        let size = lengthChecks b in
-        let keys = boardKeyChecks S b in
-        let own = recordChecks S b 0 (recordsIn b) in
-        let filed = filedRecordChecks (S .n) b 0 (recordsIn b) in
-        alike-before (size ++ own) (size ++ filed) keys (alike-behind size own filed (records-alike 0 (recordsIn b) (omega arith)))
+-- the table of 01 has the record, if any
+shaped-same : (n : ℕ) (r : Record) → (r .w0 ≡ addedKind → ⊥) → isShaped n r ≡ filedShaped n r
+unfolding isShaped agrees
+shaped-same n r h =
+    ap
+    (λ (x : Bool).
+    pick (isKeyRecord r) (isMember n (memberOf r))
+    (pick (isLineRecord r) (isMember n (dealerOf r) && isMember n (memberOf r))
+    (pick (isOpeningRecord r) (isMember n (dealerOf r))
+    (pick (isShareRecord shareKind r) (isMember n (dealerOf r) && isMember n (memberOf r))
+    (pick x (eqb (dealerOf r) 0 && isMember n (memberOf r)) false)))))
+    (and-false (eqb (r .w0) addedKind) _ (ne-eqb (r .w0) addedKind h))
 
-    filed-verdict : Met (boardChecks S b) → (d : ℕ) → verdictOn judges S b d ≡ verdictOn filedJudges S b d
-    unfolding shareAnswer recordAt
-    filed-verdict m d =
-        same-verdict judges filedJudges S b d (λ i h. filed-share d _ _ _ _ (w i h))
-        (λ c. filed-dealing d _ (linesOf b d) (λ i h l. line-record S b P (reached S b m .form) d (i - 1) (omega arith) .3 ∙ z))
+-- a stuck dealing is the end, whatever there would be
+stuck-end : (front : List Check) (c : Bool) (u v : Element)
+    → outcome (front ++ (14 unless c ∷ 13 unless false ∷ [])) u ≡ outcome (front ++ (14 unless c ∷ 13 unless false ∷ [])) v
+stuck-end [] c u v = refl
+stuck-end (k ∷ front) c u v = ap (λ (o : Outcome Element). pick (k .met) o (refused (k .number))) (stuck-end front c u v)
 
-    filed-draw : Met (boardChecks S b) ⊎ ((k : ℕ) × FirstUnmet k (boardChecks S b)) → drawIn judges S b ≡ filedDraw S b
-    unfolding drawIn
-    filed-draw (inl m) =
-        let verdicts = map-same (verdictOn judges S b) (verdictOn filedJudges S b) (members (S .n)) (All-each (members (S .n)) (filed-verdict m)) in
-        let ends = drawChecks (S .t) (verdictsOn filedJudges S b) in
-        (λ j. outcome (boardChecks S b ++ drawChecks (S .t) (verdicts j)) (record { 0 = secretsProduct (S .group .p) (verdicts j) }))
-        ∙ alike-outcome (boardChecks S b ++ ends) (filedBoardChecks S b ++ ends) (boardProduct filedJudges S b)
-        (alike-before (boardChecks S b) (filedBoardChecks S b) ends board-alike)
-    filed-draw (inr u) =
-        let same = sym (alike-outcome (boardChecks S b) (filedBoardChecks S b) (tt {0}) board-alike) in
-        let first = refused-exactly Unit (filedBoardChecks S b) tt (u .0) .0 (same ∙ refused-exactly Unit (boardChecks S b) tt (u .0) .1 (u .1)) in
-        sym (front-outcome (boardChecks S b) (drawChecks (S .t) (verdictsOn judges S b)) (u .0) (u .1) (boardProduct judges S b))
-        ∙ front-outcome (filedBoardChecks S b) (drawChecks (S .t) (verdictsOn filedJudges S b)) (u .0) first (boardProduct filedJudges S b)
+end-same : (front : List Check) (c stuck : Bool) (u v : Element)
+    → outcome (front ++ (14 unless c ∷ 13 unless pick stuck false true ∷ [])) (pick stuck u v) ≡ outcome (front ++ (14 unless c ∷ 13 unless not stuck ∷ [])) v
+end-same front c true u v = stuck-end front c u v
+end-same front c false u v = refl
+
+module _ (J : Judges) (S : Setting) (b : List ℕ) (h : (i : ℕ) → i < recordsIn b → recordAt b i .w0 ≡ addedKind → ⊥) where
+  draw-without : 1 ≤ S .t → drawIn J S b ≡ outcome (boardChecks S b ++ filedEndChecks (S .t) (verdictsOn J S b)) (record { 0 = secretsProduct (S .group .p) (verdictsOn J S b) })
+  unfolding drawIn
+  draw-without l =
+      let vs = verdictsOn J S b in
+      let few : leb (S .t) (length (addedBy J S b)) ≡ false = ap (λ (is : List ℕ). leb (S .t) (length is)) (none-of-kind J S b addedForm (multiplied J S b YIn) h) ∙ lt-leb (S .t) 0 l in
+      ap (λ (x : Bool). outcome (boardChecks S b ++ (14 unless leb (S .t) (countAccepted vs) ∷ 13 unless pick (anyStuck vs) x true ∷ [])) (drawValue J S b)) few
+      ∙ end-same (boardChecks S b) (leb (S .t) (countAccepted vs)) (anyStuck vs) _ _
+
+-- ---- a filed board
+module _ (S : Setting) (z : S .round ≡ 0) (o : S .whole ≡ false) (P : ProperSetting S) (b : List ℕ)
+    (w : (i : ℕ) → i < recordsIn b → (recordAt b i .w7 ≡ 0) × (recordAt b i .w0 ≡ addedKind → ⊥)) where
+  records-alike : (i m : ℕ) → i + m ≤ recordsIn b → Alike (recordChecks S b i m) (filedRecordChecks (S .n) b i m)
+  records-alike i zero h = tt
+  records-alike i (suc m) h =
+      let k = word-alike S z o (recordAt b i .w7) (w i (omega arith) .0) in
+      (shaped-same (S .n) (recordAt b i) (w i (omega arith) .1), λ e. refl, (k .0, k .1, (refl, λ e. refl, records-alike (suc i) m (omega arith))))
+
+  board-alike : Alike (boardChecks S b) (filedBoardChecks S b)
+  unfolding boardChecks formChecks boardKeyChecks keyChecks
+  board-alike =
+      let size = lengthChecks b in
+      let keys = boardKeyChecks S b in
+      let own = recordChecks S b 0 (recordsIn b) in
+      let filed = filedRecordChecks (S .n) b 0 (recordsIn b) in
+      alike-before (size ++ own) (size ++ filed) keys (alike-behind size own filed (records-alike 0 (recordsIn b) (omega arith)))
+
+  filed-verdict : Met (boardChecks S b) → (d : ℕ) → verdictOn judges S b d ≡ verdictOn filedJudges S b d
+  unfolding shareAnswer recordAt
+  filed-verdict m d =
+      same-verdict judges filedJudges S b d (λ i h. filed-share S z o d _ _ _ _ (w i h .0))
+      (λ c. filed-dealing S z o d _ (linesOf b d) (λ i h l. line-record S b P (reached S b m .form) d (i - 1) (omega arith) .3 ∙ z))
+
+  abbrev ends : List Verdict → List Check
+  ends vs = filedEndChecks (S .t) vs
+
+  abbrev product : List Verdict → Element
+  product vs = record { 0 = secretsProduct (S .group .p) vs }
+
+  filed-draw : Met (boardChecks S b) ⊎ ((k : ℕ) × FirstUnmet k (boardChecks S b)) → drawIn judges S b ≡ filedDraw S b
+  filed-draw (inl m) =
+      let verdicts = map-same (verdictOn judges S b) (verdictOn filedJudges S b) (members (S .n)) (All-each (members (S .n)) (filed-verdict m)) in
+      let own = verdictsOn filedJudges S b in
+      draw-without judges S b (λ i h. w i h .1) (P .t-positive)
+      ∙ (λ j. outcome (boardChecks S b ++ ends (verdicts j)) (product (verdicts j)))
+      ∙ alike-outcome (boardChecks S b ++ ends own) (filedBoardChecks S b ++ ends own) (product own)
+      (alike-before (boardChecks S b) (filedBoardChecks S b) (ends own) board-alike)
+  filed-draw (inr u) =
+      let same = sym (alike-outcome (boardChecks S b) (filedBoardChecks S b) (tt {0}) board-alike) in
+      let first = refused-exactly Unit (filedBoardChecks S b) tt (u .0) .0 (same ∙ refused-exactly Unit (boardChecks S b) tt (u .0) .1 (u .1)) in
+      refused-before judges S b (u .0) (u .1)
+      ∙ front-outcome (filedBoardChecks S b) (ends (verdictsOn filedJudges S b)) (u .0) first (product (verdictsOn filedJudges S b))
 
 pub filed-as-before : FiledAsBefore
 filed-as-before S P z o b w =

@@ -21,10 +21,11 @@ use Rattle.sharing.proofs.Rounds.{proper-in-round, carries-in-round}
 use Rattle.sharing.proofs.Degree.{passed-product}
 use Rattle.sharing.proofs.Theorems.{carried-passes}
 use Rattle.records.specs.Layout.{ZOf, shareC, shareR}
-use Rattle.challenge.specs.Message.{shareTag, checkPolynomial}
+use Rattle.challenge.specs.Message.{checkPolynomial}
 use Rattle.challenge.proofs.Challenges.{check-polynomial}
 use Rattle.dealing.specs.Dealing.{addressChecks, judgeSizeChecks, lineChecks, vIn, YIn, rIn, cIn, vsIn, recomputed, dealingFormChecks, rangeChecks, equationChecks, judgeDealingIn}
 use Rattle.share.specs.Share.{membersChecks, shareAdmissionChecks, shareRecomputed, shareFigureChecks, judgeShareIn}
+use Rattle.share.specs.declared.ShareForm.{ShareForm}
 use Rattle.board.specs.Search.{recordsIn}
 use Rattle.board.specs.Board.{oneRecordChecks, recordChecks, lengthChecks, formChecks, boardKeyChecks, boardChecks, linesChecks}
 use Rattle.demand3.specs.Rules.{underRule, UnderOtherRule}
@@ -77,15 +78,15 @@ module _ (S : Setting) (whole : Bool) where
         let nine = passed-product T vs ds (carried-passes T P' f vs K' .1 ds (check-polynomial T P' d (vIn b) (YIn b))) in
         by-equations ∙ pick-true (eqb (degreeProduct T vs ds) 1) _ (refused 9) (eq-eqb _ 1 nine)
 
-  module _ (d i y Y : ℕ) (b : List ℕ) (Z : Element) (e : judgeShareIn S d i y Y b ≡ value Z) where
-    by-challenge : judgeShareIn T d i y Y b ≡ outcome (10 unless eqb (shareC (recordIn b)) (shareRecomputed shareTag T d i y Y (recordIn b)) ∷ []) Z
+  module _ (F : ShareForm) (i y Y : ℕ) (b : List ℕ) (Z : Element) (e : judgeShareIn S F i y Y b ≡ value Z) where
+    by-challenge : judgeShareIn T F i y Y b ≡ outcome (10 unless eqb (shareC (recordIn b)) (shareRecomputed T F i y Y (recordIn b)) ∷ []) Z
     unfolding judgeShareIn shareAdmissionChecks membersChecks shareFigureChecks
     by-challenge =
         let r = recordIn b in
-        let front = shareAdmissionChecks S d i y Y b in
+        let front = shareAdmissionChecks S F i y Y b in
         let ranges : List Check =
         6 unless isElement (S .group) (ZOf r) ∷ 7 unless (isExponent (S .group) (shareC r) && isExponent (S .group) (shareR r)) ∷ [] in
-        let equation : Setting → List Check = λ R. 10 unless eqb (shareC r) (shareRecomputed shareTag R d i y Y r) ∷ [] in
+        let equation : Setting → List Check = λ R. 10 unless eqb (shareC r) (shareRecomputed R F i y Y r) ∷ [] in
         let v = value-met (front ++ (ranges ++ equation S)) (record { 0 = ZOf r }) Z e in
         last-decides front ranges (equation S) (equation T) (v .0) (record { 0 = ZOf r }) ∙ ap (outcome (equation T)) (v .1)
 

@@ -1,41 +1,29 @@
 -- How the secret of a dealing came. The opening that the search finds is the dealer's only one, so it is right exactly if some opening
--- of his is. His accepted shares stand in the order of their records, so their members ascend.
+-- of his is.
 use mathlib.Core.Path.{_≡_, refl, sym, ap, _∙_}
 use mathlib.Core.Bool.{Bool, true, false}
 use mathlib.Core.List.{List}
 use mathlib.Core.Logic.{_↔_}
 use Prim.Native.Nat.{ℕ, _<_, _≤_}
 use native.Mathlib.Omega.{arith}
-use borrow.Author.Tests.{lt-ltb, ltb-true, ltb-false}
+use borrow.Author.Tests.{lt-ltb, ltb-true, leb-true, leb-false}
 use lib.ListN.{length, take}
-use lib.Dec.{ltb}
-use Rattle.words.specs.Lists.{map}
+use lib.Dec.{leb, ltb}
 use Rattle.words.specs.Checks.{isValue}
 use Rattle.words.proofs.Tests.{false-true, and-true, true-and, pick-true, pick-false}
 use Rattle.words.proofs.Checks.{is-value}
 use Rattle.group.specs.declared.Element.{Element}
 use Rattle.sharing.specs.Answer.{openingIn}
 use Rattle.sharing.specs.declared.Setting.{Setting}
-use Rattle.records.specs.Layout.{openingKind, memberOf, uOf, recordAt}
-use Rattle.board.specs.Search.{Ascending, recordsIn}
+use Rattle.records.specs.Layout.{openingKind, uOf, recordAt}
+use Rattle.board.specs.Search.{recordsIn}
 use Rattle.board.specs.Board.{openingPlace}
-use Rattle.board.proofs.Searches.{filter-ascending}
-use Rattle.board.proofs.Order.{Reached, shapes, sorted, members-rise}
+use Rattle.board.proofs.Order.{Reached, shapes, sorted}
 use Rattle.board.proofs.Places.{at-true, true-at, record-is, only-record}
-use Rattle.verdicts.specs.Verdict.{Judges, commitmentsOf, isShareBy, sharesBy, fromShares, isOpened, secretBy}
+use Rattle.verdicts.specs.Shares.{Judges, recoveredFrom, fromLowest}
+use Rattle.verdicts.specs.Verdict.{commitmentsOf, sharesBy, secretFrom, fromShares, isOpened, secretBy}
 use Rattle.verdicts.specs.declared.Secret.the-variants.{Opened, Recovered, Stuck}
-use Rattle.verdicts.proofs.ShareAnswers.{share-address}
-use Rattle.demand3.specs.Claims.{RightlyOpened, powerOfH, recoveredFrom}
-
--- ---- accepted shares
-pub shares-ascend : (J : Judges) {S : Setting} {b : List ℕ} → Reached S b → (d : ℕ) → Ascending (map (λ i. memberOf (recordAt b i)) (sharesBy J S b d))
-unfolding sharesBy
-shares-ascend J {S} {b} F d =
-    filter-ascending (isShareBy J S b d) (λ i. memberOf (recordAt b i)) 0 (recordsIn b)
-    (λ i j l u e f.
-    let s = share-address J S b d i e in
-    let t = share-address J S b d j f in
-    members-rise (sorted S b (F .form)) i j l (omega arith) (s .0 ∙ sym (t .0)) (s .1 ∙ sym (t .1)))
+use Rattle.demand3.specs.Claims.{RightlyOpened, powerOfH}
 
 -- ---- the opening
 module _ {S : Setting} {b : List ℕ} (F : Reached S b) (d : ℕ) where
@@ -68,17 +56,17 @@ pub data Source (J : Judges) (S : Setting) (b : List ℕ) (d : ℕ) : Type 0 whe
 
 module _ (J : Judges) {S : Setting} {b : List ℕ} (F : Reached S b) (d : ℕ) where
   pub source-of : Source J S b d
-  unfolding secretBy fromShares opened-right
-  source-of = by-tests (isOpened S b d) (ltb (length (sharesBy J S b d)) (S .t)) refl refl
+  unfolding secretBy fromShares fromLowest opened-right
+  source-of = by-tests (isOpened S b d) (leb (S .t) (length (sharesBy J S b d))) refl refl
     where
-      by-tests : (x y : Bool) → isOpened S b d ≡ x → ltb (length (sharesBy J S b d)) (S .t) ≡ y → Source J S b d
+      by-tests : (x y : Bool) → isOpened S b d ≡ x → leb (S .t) (length (sharesBy J S b d)) ≡ y → Source J S b d
       by-tests true y e f = opened (opened-right F d e) (pick-true (isOpened S b d) _ _ e)
-      by-tests false true e f =
-          stuck (λ o. false-true (sym e ∙ right-opened F d o)) (ltb-true (length (sharesBy J S b d)) (S .t) f)
-          (pick-false (isOpened S b d) _ _ e ∙ pick-true (ltb (length (sharesBy J S b d)) (S .t)) _ _ f)
       by-tests false false e f =
-          recovers (λ o. false-true (sym e ∙ right-opened F d o)) (ltb-false (length (sharesBy J S b d)) (S .t) f)
-          (pick-false (isOpened S b d) _ _ e ∙ pick-false (ltb (length (sharesBy J S b d)) (S .t)) _ _ f)
+          stuck (λ o. false-true (sym e ∙ right-opened F d o)) (leb-false (S .t) (length (sharesBy J S b d)) f)
+          (pick-false (isOpened S b d) _ _ e ∙ ap secretFrom (pick-false (leb (S .t) (length (sharesBy J S b d))) _ _ f))
+      by-tests false true e f =
+          recovers (λ o. false-true (sym e ∙ right-opened F d o)) (leb-true (S .t) (length (sharesBy J S b d)) f)
+          (pick-false (isOpened S b d) _ _ e ∙ ap secretFrom (pick-true (leb (S .t) (length (sharesBy J S b d))) _ _ f))
 
   -- ---- each exactly where its conditions hold
   pub opened-exactly : Source J S b d → (v : Element)

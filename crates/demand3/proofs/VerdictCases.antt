@@ -16,12 +16,15 @@ use Rattle.sharing.specs.declared.Setting.{Setting}
 use Rattle.records.specs.Layout.{lineKind, dealerOf, recordAt}
 use Rattle.board.specs.Search.{recordsIn}
 use Rattle.board.specs.Board.{linesStart, linesEnd, lineCount}
-use Rattle.verdicts.specs.Verdict.{Judges, dealingAnswer, isAccepted, secretBy, verdictFrom, verdictOn}
+use Rattle.share.specs.Share.{openedForm}
+use Rattle.verdicts.specs.Shares.{Judges}
+use Rattle.verdicts.specs.Verdict.{dealingAnswer, isAccepted, encryptedOf, secretBy, verdictFrom, verdictOn}
 use Rattle.demand3.specs.Claims.{VerdictRules}
 use Rattle.verdicts.specs.declared.Secret.{Secret}
 use Rattle.verdicts.specs.declared.Verdict.the-variants.{None, Refused, Accepted}
 use Rattle.board.proofs.Order.{Reached, reached}
-use Rattle.demand3.proofs.Sources.{shares-ascend, source-of, opened-exactly, recovers-exactly, stuck-exactly}
+use Rattle.demand3.proofs.Serving.{shares-ascend}
+use Rattle.demand3.proofs.Sources.{source-of, opened-exactly, recovers-exactly, stuck-exactly}
 use Rattle.board.proofs.LineRun.{lines-exact}
 
 -- ---- the four cases of a verdict
@@ -115,6 +118,6 @@ verdict-rules J S P b m d =
       accepted = accepted-exactly J P F d v;
       opened = opened-exactly J F d s;
       recovers = recovers-exactly J F d s;
-      lowest-first = shares-ascend J F d;
+      lowest-first = shares-ascend J F (openedForm d) (encryptedOf S b d);
       stuck = stuck-exactly J F d s;
     }

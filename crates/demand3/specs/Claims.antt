@@ -2,26 +2,28 @@
 -- DrawByRound reads this off for rounds, as the board judge answers.
 use mathlib.Core.Path.{_≡_}
 use mathlib.Core.Bool.{Bool, true}
-use mathlib.Core.List.{List, [], _∷_}
+use mathlib.Core.List.{List}
 use mathlib.Core.Logic.{_⊎_, _↔_}
 use Prim.Native.Nat.{ℕ, _<_, _≤_}
 use lib.ListN.{length, take}
-use Rattle.words.specs.Lists.{map}
+use Rattle.words.specs.Lists.{All, map}
 use Rattle.words.specs.Checks.{Outcome, value, refused, Met, FirstUnmet}
-use Rattle.field.specs.Residue.{mul}
 use Rattle.field.specs.Polynomial.{valueAt}
 use Rattle.group.specs.Power.{pow}
 use Rattle.group.specs.declared.Element.{Element}
 use Rattle.group.specs.declared.Group.{Group}
-use Rattle.sharing.specs.Setting.{ProperSetting, settingIn, inRound, withNumbers, roundChecks, members}
-use Rattle.sharing.specs.Answer.{openingIn, recovered}
+use Rattle.sharing.specs.Setting.{ProperSetting, settingIn, inRound, withNumbers, roundChecks}
+use Rattle.sharing.specs.Answer.{openingIn}
 use Rattle.sharing.specs.Carried.{Carries, secretOf}
 use Rattle.sharing.specs.declared.Round.{Round}
 use Rattle.sharing.specs.declared.Setting.{Setting}
+use Rattle.sums.specs.Sum.{productOf, sumOf}
 use Rattle.records.specs.Layout.{lineKind, openingKind, dealerOf, memberOf, uOf, ZOf, recordAt}
-use Rattle.board.specs.Search.{filter, Ascending, recordsIn}
+use Rattle.board.specs.Search.{Ascending, recordsIn}
 use Rattle.board.specs.Board.{boardChecks, lineCount}
-use Rattle.verdicts.specs.Verdict.{Judges, dealingAnswer, isAccepted, commitmentsOf, isShareBy, sharesBy, secretBy, verdictOn, verdictsOn}
+use Rattle.verdicts.specs.Shares.{Judges, recoveredFrom}
+use Rattle.verdicts.specs.Verdict.{dealingAnswer, isAccepted, commitmentsOf, isShareBy, sharesBy, secretBy, verdictOn, verdictsOn}
+use Rattle.verdicts.specs.Added.{acceptedDealers, addedBy}
 use Rattle.verdicts.specs.Draw.{countAccepted, secretValue, drawIn, drawOn}
 use Rattle.verdicts.specs.declared.Secret.{Secret}
 use Rattle.verdicts.specs.declared.Secret.the-variants.{Opened, Recovered, Stuck}
@@ -43,19 +45,6 @@ Revealed J S b d = RightlyOpened S b d ⊎ (S .t ≤ length (sharesBy J S b d))
 -- h^e
 abbrev pub powerOfH : Group → ℕ → ℕ
 powerOfH G e = pow (G .p) (G .h .0) e
-
--- what recovery gives from the shares in the records is
-abbrev pub recoveredFrom : Group → List ℕ → List ℕ → ℕ
-recoveredFrom G b is = recovered G (map (λ i. memberOf (recordAt b i)) is) (map (λ i. ZOf (recordAt b i)) is)
-
--- the dealers whose dealings are accepted
-abbrev pub acceptedDealers : Judges → Setting → List ℕ → List ℕ
-acceptedDealers J S b = filter (isAccepted J S b) (members (S .n))
-
--- the product modulo p of a list
-abbrev pub productOf : ℕ → List ℕ → ℕ
-productOf p [] = 1
-productOf p (x ∷ xs) = mul p x (productOf p xs)
 
 -- ---- verdict rules: "A dealer's verdict is none exactly where he has no lines", and what follows it
 pub record VerdictRule (J : Judges) (S : Setting) (b : List ℕ) (d : ℕ) : Type 0 where
@@ -87,18 +76,29 @@ RefusedBefore = (J : Judges) (S : Setting) (b : List ℕ) (k : ℕ) → FirstUnm
 abbrev pub SomeStuck : Judges → Setting → List ℕ → Type 0
 SomeStuck J S b = (d : ℕ) × (1 ≤ d) × (d ≤ S .n) × (verdictOn J S b d ≡ Accepted Stuck)
 
--- a board whose verdicts are reached: "Then, after all verdicts, 14 fewer than t accepted; 13 a stuck dealing"
+-- the draw is the product modulo p of the secrets of the accepted dealings, of which none is stuck
+abbrev pub DrawnBySecrets : Judges → Setting → List ℕ → Element → Type 0
+DrawnBySecrets J S b v =
+    (SomeStuck J S b → ⊥) × (v .0 ≡ productOf (S .group .p) (map (λ d. secretValue (secretBy J S b d)) (acceptedDealers J S b)))
+
+-- the draw is what the t lowest members with accepted added shares recover; a dealing is stuck
+abbrev pub DrawnByAdded : Judges → Setting → List ℕ → Element → Type 0
+DrawnByAdded J S b v =
+    SomeStuck J S b × (S .t ≤ length (addedBy J S b)) × (v .0 ≡ recoveredFrom (S .group) b (take (S .t) (addedBy J S b)))
+
+-- a board whose verdicts are reached: after all verdicts 14 fewer than t accepted, then 13 a stuck dealing where fewer than t added shares
+-- are accepted
 pub record EndRule (J : Judges) (S : Setting) (b : List ℕ) : Type 0 where
   -- the count of accepted dealings, stuck ones included
   pub count : countAccepted (verdictsOn J S b) ≡ length (acceptedDealers J S b)
   -- 14 exactly where fewer than t dealings are accepted
   pub fourteen : (drawIn J S b ≡ refused 14) ↔ (length (acceptedDealers J S b) < S .t)
-  -- 13 exactly where t or more are accepted and one is stuck
-  pub thirteen : (drawIn J S b ≡ refused 13) ↔ ((S .t ≤ length (acceptedDealers J S b)) × SomeStuck J S b)
-  -- a draw exactly where t or more are accepted and none is stuck: the product modulo p of the secrets of the accepted dealings
+  -- 13 exactly where t or more are accepted, one is stuck, and fewer than t added shares are accepted
+  pub thirteen : (drawIn J S b ≡ refused 13) ↔ ((S .t ≤ length (acceptedDealers J S b)) × SomeStuck J S b × (length (addedBy J S b) < S .t))
+  -- a draw exactly where t or more are accepted and it comes from the secrets or, where one is stuck, from added shares
   pub drawn : (v : Element) → (drawIn J S b ≡ value v)
-      ↔ ((S .t ≤ length (acceptedDealers J S b)) × (SomeStuck J S b → ⊥)
-      × (v .0 ≡ productOf (S .group .p) (map (λ d. secretValue (secretBy J S b d)) (acceptedDealers J S b))))
+      ↔ ((S .t ≤ length (acceptedDealers J S b)) × (DrawnBySecrets J S b v ⊎ DrawnByAdded J S b v))
+  pub lowest-first : Ascending (map (λ i. memberOf (recordAt b i)) (addedBy J S b))
 
 abbrev pub EndRules : Type 0
 EndRules = (J : Judges) (S : Setting) → ProperSetting S → (b : List ℕ) → Met (boardChecks S b) → EndRule J S b
@@ -126,38 +126,66 @@ pub record SameDealings (J : Judges) (S T : Setting) (b c : List ℕ) : Type 0 w
 abbrev pub secretsOf : Judges → Setting → List ℕ → (ℕ → List ℕ) → ℕ
 secretsOf J S b f = productOf (S .group .p) (map (λ d. powerOfH (S .group) (secretOf S (f d))) (acceptedDealers J S b))
 
+-- ---- added shares
+-- the sum of the polynomials of the accepted dealings, that of d with the polynomial f d
+abbrev pub sumOn : Judges → Setting → List ℕ → (ℕ → List ℕ) → List ℕ
+sumOn J S b f = sumOf S (map f (acceptedDealers J S b))
+
+-- every accepted dealing is carried, that of d by the polynomial f d
+abbrev pub AllCarried : Judges → Setting → List ℕ → (ℕ → List ℕ) → Type 0
+AllCarried J S b f = (d : ℕ) → 1 ≤ d → d ≤ S .n → isAccepted J S b d ≡ true → Carries S (f d) (commitmentsOf S b d)
+
+-- no check before the verdicts refuses the board, every accepted dealing is carried, one is stuck, and t or more added shares are
+-- accepted, of which those of the t lowest members are true to the sum
+pub record AddedTrue (J : Judges) (S : Setting) (b : List ℕ) (f : ℕ → List ℕ) : Type 0 where
+  pub reached : Met (boardChecks S b)
+  pub carried : AllCarried J S b f
+  pub stuck : SomeStuck J S b
+  pub enough : S .t ≤ length (addedBy J S b)
+  pub true-shares : All (λ i. ZOf (recordAt b i) ≡ powerOfH (S .group) (valueAt (S .group .q) (sumOn J S b f) (memberOf (recordAt b i)))) (take (S .t) (addedBy J S b))
+
+-- the board ends by separate secrets or by added shares, and what it ends by is true
+abbrev pub EitherTrue : Judges → Setting → List ℕ → (ℕ → List ℕ) → Type 0
+EitherTrue J S b f = AllRecoverable J S b f ⊎ AddedTrue J S b f
+
+-- ---- two boards
+-- what is asked of a board, by which it ends in a draw
+abbrev pub Asked : Type 1
+Asked = Judges → Setting → List ℕ → (ℕ → List ℕ) → Type 0
+
 -- F. Any two boards of one group, n and t with the same accepted dealings, at least t of them, each carried by a polynomial of degree
 -- below t, end in the same draw value, the product of the h^s modulo p, if on each board every one of these dealings is rightly opened
--- or has t or more accepted shares and all accepted shares are true. The polynomials may be named differently for the two boards;
--- draw₁ b and draw₂ c are what is answered for the board b in the setting S and for the board c in T.
-abbrev pub TwoBoards : Judges → Setting → Setting → (List ℕ → Outcome Element) → (List ℕ → Outcome Element) → Type 0
-TwoBoards J S T draw₁ draw₂ =
-    (b c : List ℕ) (f₁ f₂ : ℕ → List ℕ) → AllRecoverable J S b f₁ → AllRecoverable J T c f₂ → SameDealings J S T b c
+-- or has t or more accepted shares and all accepted shares are true: what is asked of each is then AllRecoverable. With EitherTrue each
+-- of them may as well end by added shares that are true. The polynomials may be named differently for the two boards; draw₁ b and draw₂ c
+-- are what is answered for the board b in the setting S and for the board c in T.
+abbrev pub TwoBoards : Asked → Judges → Setting → Setting → (List ℕ → Outcome Element) → (List ℕ → Outcome Element) → Type 0
+TwoBoards A J S T draw₁ draw₂ =
+    (b c : List ℕ) (f₁ f₂ : ℕ → List ℕ) → A J S b f₁ → A J T c f₂ → SameDealings J S T b c
     → S .t ≤ length (acceptedDealers J S b)
     → (draw₁ b ≡ value (record { 0 = secretsOf J S b f₁ })) × (draw₂ c ≡ value (record { 0 = secretsOf J S b f₁ }))
 
 -- two boards of one round, in every proper setting; nothing is asked of the judges
-abbrev pub SameDraw : Judges → Type 0
-SameDraw J = (S : Setting) → ProperSetting S → TwoBoards J S S (drawIn J S) (drawIn J S)
+abbrev pub SameDraw : Asked → Judges → Type 0
+SameDraw A J = (S : Setting) → ProperSetting S → TwoBoards A J S S (drawIn J S) (drawIn J S)
 
 -- two boards of two rounds, each under either rule: what is accepted decides the draw value, and neither the round that it is accepted in
 -- nor the rule by which its challenges were made
-abbrev pub SameDrawAcross : Judges → Type 0
-SameDrawAcross J =
+abbrev pub SameDrawAcross : Asked → Judges → Type 0
+SameDrawAcross A J =
     (S : Setting) → ProperSetting S → (round : ℕ) (whole : Bool)
-    → TwoBoards J S (inRound round whole S) (drawIn J S) (drawIn J (inRound round whole S))
+    → TwoBoards A J S (inRound round whole S) (drawIn J S) (drawIn J (inRound round whole S))
 
 -- ---- over a round
 -- what the board judge answers: it refuses a round that 1 or 2 refuses by that number. The setting of any other is proper, and the
 -- board judge answers what it answers there, so F holds of its answers: for two boards of the round, and for two rounds whose numbers and
 -- first rounds under the new rule are any
-pub record DrawOverRound (J : Judges) (R : Round) : Type 0 where
+pub record DrawOverRound (A : Asked) (J : Judges) (R : Round) : Type 0 where
   pub refuses : (b : List ℕ) (k : ℕ) → FirstUnmet k (roundChecks R) → drawOn J R b ≡ refused k
   pub proper : Met (roundChecks R) → ProperSetting (settingIn R)
   pub draw-in : Met (roundChecks R) → (b : List ℕ) → drawOn J R b ≡ drawIn J (settingIn R) b
-  pub same-draw : Met (roundChecks R) → TwoBoards J (settingIn R) (settingIn R) (drawOn J R) (drawOn J R)
+  pub same-draw : Met (roundChecks R) → TwoBoards A J (settingIn R) (settingIn R) (drawOn J R) (drawOn J R)
   pub same-draw-across : Met (roundChecks R) → (round first : ℕ)
-      → TwoBoards J (settingIn R) (settingIn (withNumbers round first R)) (drawOn J R) (drawOn J (withNumbers round first R))
+      → TwoBoards A J (settingIn R) (settingIn (withNumbers round first R)) (drawOn J R) (drawOn J (withNumbers round first R))
 
-abbrev pub DrawByRound : Judges → Type 0
-DrawByRound J = (R : Round) → DrawOverRound J R
+abbrev pub DrawByRound : Asked → Judges → Type 0
+DrawByRound A J = (R : Round) → DrawOverRound A J R

@@ -2,8 +2,8 @@
 -- answer, for every proper setting: any proper group whose figures fit a word, with any n and t in their ranges, in any round and under
 -- either rule. The two last lines read it off for every round that 1 and 2 do not refuse, whatever its two numbers are.
 use Rattle.sharing.specs.Claims.{AlwaysCarried, UncarriedOneValue, CarriedPasses, CarriedExactly, OpeningExactly, QuorumRecovers, RoundBySetting}
-use Rattle.verdicts.specs.Verdict.{judges}
-use Rattle.demand3.specs.Claims.{SameDraw, SameDrawAcross, DrawByRound}
+use Rattle.verdicts.specs.Shares.{judges}
+use Rattle.demand3.specs.Claims.{AllRecoverable, SameDraw, SameDrawAcross, DrawByRound}
 
 pub record Demand3 : Type 0 where
   -- A. With n = t there is no place of a check polynomial, and some polynomial of degree below t carries any n elements.
@@ -21,10 +21,10 @@ pub record Demand3 : Type 0 where
   pub quorum-recovers : QuorumRecovers
   -- F. Two boards of one round with the same accepted dealings, t or more, each carried, opened or with t or more accepted shares, all of them true,
   -- end in the same draw value, the product of the h^s modulo p. The judges are those of the crates dealing and share.
-  pub same-draw : SameDraw judges
+  pub same-draw : SameDraw AllRecoverable judges
   -- F for two boards of two rounds, each under either rule.
-  pub same-draw-across : SameDrawAcross judges
+  pub same-draw-across : SameDrawAcross AllRecoverable judges
   -- A to E over a round: each operation answers what it answers in the round's setting, which is proper.
   pub round-by-setting : RoundBySetting
   -- F over a round: what the board judge answers.
-  pub draw-by-round : DrawByRound judges
+  pub draw-by-round : DrawByRound AllRecoverable judges

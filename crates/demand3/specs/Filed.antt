@@ -1,12 +1,13 @@
 -- 01 as it was before records had a round's number: word 7 is a spare word like the others, refused by 4, the messages have nothing of the
--- round in them, and their digests give exponents by 8 bytes. In round 0 every board that was filed with zero in each word 7 is judged as
--- it was then.
+-- round in them, their digests give exponents by 8 bytes, the last kind is 4, and a stuck dealing is the end. In round 0 every board that
+-- was filed with zero in each word 7 and no record of kind 5 is judged as it was then.
 use mathlib.Core.Path.{_≡_}
-use mathlib.Core.Bool.{false, _&&_}
+use mathlib.Core.Bool.{Bool, false, not, _&&_}
 use mathlib.Core.List.{List, [], _∷_, _++_}
 use Prim.Native.Nat.{ℕ, zero, suc, _-_, _%_, _<_}
 use lib.ListN.{take}
-use lib.Dec.{eqb}
+use lib.Dec.{leb, eqb}
+use Rattle.words.specs.Choice.{pick}
 use Rattle.words.specs.Lists.{all, map, upFrom}
 use Rattle.words.specs.Checks.{Check, _unless_, Outcome, outcome, Met}
 use Rattle.words.specs.Bytes.{bigEndian, recordIn}
@@ -15,25 +16,35 @@ use Rattle.sha256.specs.Hash.{hash}
 use Rattle.group.specs.Element.{isElement, isExponent}
 use Rattle.group.specs.declared.Element.{Element}
 use Rattle.group.specs.declared.Group.{Group}
-use Rattle.sharing.specs.Setting.{ProperSetting, members}
+use Rattle.sharing.specs.Setting.{ProperSetting, isMember, members}
 use Rattle.sharing.specs.Answer.{degreeProduct}
 use Rattle.sharing.specs.declared.Setting.{Setting}
-use Rattle.records.specs.Layout.{ZOf, shareC, shareR, entry, recordAt, recordOf}
+use Rattle.records.specs.Layout.{shareKind, addedKind, isKeyRecord, isLineRecord, isOpeningRecord, isShareRecord, dealerOf, memberOf, ZOf, shareC, shareR, entry, recordAt, recordOf}
 use Rattle.records.specs.Keys.{isKey}
 use Rattle.challenge.specs.Message.{dealingTag, shareTag, coefficientTag, dealingFigures, shareFigures, coefficientFigures, roundlessMessage}
 use Rattle.equality.specs.Equality.{announced}
 use Rattle.dealing.specs.Dealing.{addressChecks, judgeSizeChecks, isLineOf, vIn, YIn, rIn, cIn, vsIn, rangeChecks}
-use Rattle.share.specs.Share.{membersChecks, shareInputChecks, isShareFor}
+use Rattle.share.specs.Share.{openedForm, shareInputChecks, isShareFor}
 use Rattle.board.specs.Search.{recordsIn}
-use Rattle.board.specs.Board.{isShaped, inOrder, lengthChecks, hasKey, keysIn, boardChecks}
-use Rattle.verdicts.specs.Verdict.{Judges, judges, verdictOn, verdictsOn}
-use Rattle.verdicts.specs.Draw.{drawChecks, boardProduct, drawIn}
+use Rattle.board.specs.Board.{inOrder, lengthChecks, hasKey, keysIn, boardChecks}
+use Rattle.verdicts.specs.Shares.{Judges, judges}
+use Rattle.verdicts.specs.Verdict.{verdictOn, verdictsOn}
+use Rattle.verdicts.specs.Draw.{countAccepted, anyStuck, secretsProduct, drawIn}
+use Rattle.verdicts.specs.declared.Verdict.{Verdict}
 
 -- ---- the checks of 01
+-- a record of its table, whose last kind is 4
+abbrev pub filedShaped : ℕ → Record → Bool
+filedShaped n r =
+    pick (isKeyRecord r) (isMember n (memberOf r))
+    (pick (isLineRecord r) (isMember n (dealerOf r) && isMember n (memberOf r))
+    (pick (isOpeningRecord r) (isMember n (dealerOf r))
+    (pick (isShareRecord shareKind r) (isMember n (dealerOf r) && isMember n (memberOf r)) false)))
+
 abbrev pub filedRecordChecks : ℕ → List ℕ → ℕ → ℕ → List Check
 filedRecordChecks n b i zero = []
 filedRecordChecks n b i (suc m) =
-    4 unless isShaped n (recordAt b i)
+    4 unless filedShaped n (recordAt b i)
     ∷ 4 unless eqb (recordAt b i .w7) 0
     ∷ 5 unless inOrder b i
     ∷ filedRecordChecks n b (suc i) m
@@ -80,7 +91,7 @@ filedDealing S d ys b =
     tt
 
 abbrev pub filedShareChecks : ℕ → ℕ → Record → List Check
-filedShareChecks d i r = 4 unless isShareFor d i r ∷ 4 unless eqb (r .w7) 0 ∷ []
+filedShareChecks d i r = 4 unless isShareFor (openedForm d) i r ∷ 4 unless eqb (r .w7) 0 ∷ []
 
 abbrev pub filedShareFigures : Setting → ℕ → ℕ → ℕ → ℕ → Record → List Check
 filedShareFigures S d i y Y r =
@@ -96,14 +107,20 @@ abbrev pub filedShare : Setting → ℕ → ℕ → ℕ → ℕ → List ℕ →
 filedShare S d i y Y b =
     let r = recordIn b in
     outcome
-    (((membersChecks S d i ++ shareInputChecks (S .group) y Y b) ++ filedShareChecks d i r) ++ filedShareFigures S d i y Y r)
+    (((8 unless (isMember (S .n) d && isMember (S .n) i) ∷ []) ++ shareInputChecks (S .group) y Y b ++ filedShareChecks d i r) ++ filedShareFigures S d i y Y r)
     (record { 0 = ZOf r })
 
 abbrev pub filedJudges : Judges
-filedJudges = record { dealing = filedDealing; share = filedShare }
+filedJudges = record { dealing = filedDealing; share = λ S F. filedShare S (F .dealer) }
+
+-- the end: 14 fewer than t accepted, then 13 a stuck dealing
+abbrev pub filedEndChecks : ℕ → List Verdict → List Check
+filedEndChecks t vs = 14 unless leb t (countAccepted vs) ∷ 13 unless not (anyStuck vs) ∷ []
 
 abbrev pub filedDraw : Setting → List ℕ → Outcome Element
-filedDraw S b = outcome (filedBoardChecks S b ++ drawChecks (S .t) (verdictsOn filedJudges S b)) (boardProduct filedJudges S b)
+filedDraw S b =
+    let vs = verdictsOn filedJudges S b in
+    outcome (filedBoardChecks S b ++ filedEndChecks (S .t) vs) (record { 0 = secretsProduct (S .group .p) vs })
 
 -- ---- the claim, under the old rule, which is that of round 0 whatever the first round under the new one is
 pub record FiledBoard (S : Setting) (b : List ℕ) : Type 0 where
@@ -117,4 +134,4 @@ pub record FiledBoard (S : Setting) (b : List ℕ) : Type 0 where
 abbrev pub FiledAsBefore : Type 0
 FiledAsBefore =
     (S : Setting) → ProperSetting S → S .round ≡ 0 → S .whole ≡ false
-    → (b : List ℕ) → ((i : ℕ) → i < recordsIn b → recordAt b i .w7 ≡ 0) → FiledBoard S b
+    → (b : List ℕ) → ((i : ℕ) → i < recordsIn b → (recordAt b i .w7 ≡ 0) × (recordAt b i .w0 ≡ addedKind → ⊥)) → FiledBoard S b

@@ -13,7 +13,8 @@ use Rattle.sharing.specs.Carried.{Quorum, secretOf}
 use Rattle.sharing.specs.declared.Setting.{Setting}
 use Rattle.records.specs.Layout.{entry}
 use Rattle.dealing.specs.Dealing.{writeDealingIn, writtenDealing, YIn}
-use Rattle.share.specs.Share.{keyOf, shareOf, writeShareIn, writtenShare, judgeShareIn}
+use Rattle.sums.specs.Sum.{productOf, sumOf}
+use Rattle.share.specs.Share.{openedForm, addedForm, keyOf, shareOf, writeShareIn, writtenShare, judgeShareIn}
 use Rattle.demand3.specs.Claims.{powerOfH}
 
 -- x is the secret key of member i, whose key stands among the keys ys
@@ -32,8 +33,8 @@ abbrev pub LineShareAccepted : Type 0
 LineShareAccepted =
     (S : Setting) → ProperSetting S → S .round < 2 ^ 32 → (d : ℕ) (ys f ws : List ℕ) → writeDealingIn S d ys f ws (32 * S .n) ≡ value tt
     → (i x w : ℕ) → 1 ≤ i → i ≤ S .n → HoldsKey (S .group) ys i x → w < S .group .q
-    → (writeShareIn S d i (lineY S d ys f ws i) x w 32 ≡ value tt)
-    × (judgeShareIn S d i (entry ys i) (lineY S d ys f ws i) (writtenShare S d i (lineY S d ys f ws i) x w)
+    → (writeShareIn S (openedForm d) i (lineY S d ys f ws i) x w 32 ≡ value tt)
+    × (judgeShareIn S (openedForm d) i (entry ys i) (lineY S d ys f ws i) (writtenShare S (openedForm d) i (lineY S d ys f ws i) x w)
     ≡ value (record { 0 = powerOfH (S .group) (valueAt (S .group .q) f i) }))
 
 -- and such shares of t or more members recover the dealing's secret
@@ -42,3 +43,19 @@ WrittenRecovered =
     (S : Setting) → ProperSetting S → S .round < 2 ^ 32 → (d : ℕ) (ys f ws : List ℕ) → writeDealingIn S d ys f ws (32 * S .n) ≡ value tt
     → (x : ℕ → ℕ) (ms : List ℕ) → Quorum S ms → All (λ i. HoldsKey (S .group) ys i (x i)) ms
     → recoveryIn S ms (map (λ i. shareOf (S .group) (lineY S d ys f ws i) (x i)) ms) ≡ value (record { 0 = powerOfH (S .group) (secretOf S f) })
+
+-- ---- added shares
+-- the Y in the lines of member i, of dealings that the dealers ds have written with the polynomials f and the nonces ws, multiplied
+abbrev pub linesY : Setting → List ℕ → List ℕ → (ℕ → List ℕ) → (ℕ → List ℕ) → ℕ → ℕ
+linesY S ds ys f ws i = productOf (S .group .p) (map (λ d. lineY S d ys (f d) (ws d) i) ds)
+
+-- the added share that a member writes from his lines of written dealings and his secret key is accepted with his key and the product of the
+-- lines' Y, and it is true: it answers h to the value at him of the polynomials' sum
+abbrev pub AddedShareAccepted : Type 0
+AddedShareAccepted =
+    (S : Setting) → ProperSetting S → S .round < 2 ^ 32 → (ds ys : List ℕ) (f ws : ℕ → List ℕ)
+    → All (λ d. writeDealingIn S d ys (f d) (ws d) (32 * S .n) ≡ value tt) ds
+    → (i x w : ℕ) → 1 ≤ i → i ≤ S .n → HoldsKey (S .group) ys i x → w < S .group .q
+    → (writeShareIn S addedForm i (linesY S ds ys f ws i) x w 32 ≡ value tt)
+    × (judgeShareIn S addedForm i (entry ys i) (linesY S ds ys f ws i) (writtenShare S addedForm i (linesY S ds ys f ws i) x w)
+    ≡ value (record { 0 = powerOfH (S .group) (valueAt (S .group .q) (sumOf S (map f ds)) i) }))

@@ -13,9 +13,9 @@ use Rattle.sharing.specs.Setting.{ProperSetting, inRound, members}
 use Rattle.sharing.specs.Carried.{Carries}
 use Rattle.sharing.specs.declared.Setting.{Setting}
 use Rattle.records.specs.Layout.{shareC}
-use Rattle.challenge.specs.Message.{shareTag}
 use Rattle.dealing.specs.Dealing.{vIn, YIn, rIn, cIn, vsIn, recomputed, equationChecks, judgeDealingIn}
 use Rattle.share.specs.Share.{shareRecomputed, judgeShareIn}
+use Rattle.share.specs.declared.ShareForm.{ShareForm}
 use Rattle.board.specs.Board.{boardChecks, linesChecks}
 
 -- the same setting under a rule
@@ -33,10 +33,10 @@ pub record UnderRule (S : Setting) (whole : Bool) : Type 0 where
   pub carried : (d : ℕ) (ys b f : List ℕ) → Carries S f (vsIn (S .n) b) → judgeDealingIn S d ys b ≡ value tt
       → judgeDealingIn (underRule whole S) d ys b
       ≡ outcome (10 unless all (λ i. eqb (cIn b i) (recomputed (underRule whole S) d ys (vIn b) (YIn b) (rIn b) (cIn b))) (members (S .n)) ∷ []) tt
-  -- a share: 10 alone, and the same Z
-  pub share : (d i y Y : ℕ) (b : List ℕ) (Z : Element) → judgeShareIn S d i y Y b ≡ value Z
-      → judgeShareIn (underRule whole S) d i y Y b
-      ≡ outcome (10 unless eqb (shareC (recordIn b)) (shareRecomputed shareTag (underRule whole S) d i y Y (recordIn b)) ∷ []) Z
+  -- a share in any form: 10 alone, and the same Z
+  pub share : (F : ShareForm) (i y Y : ℕ) (b : List ℕ) (Z : Element) → judgeShareIn S F i y Y b ≡ value Z
+      → judgeShareIn (underRule whole S) F i y Y b
+      ≡ outcome (10 unless eqb (shareC (recordIn b)) (shareRecomputed (underRule whole S) F i y Y (recordIn b)) ∷ []) Z
 
 abbrev pub UnderOtherRule : Type 0
 UnderOtherRule = (S : Setting) → ProperSetting S → (whole : Bool) → UnderRule S whole

@@ -20,6 +20,9 @@ openingKind = 3
 abbrev pub shareKind : ℕ
 shareKind = 4
 
+abbrev pub addedKind : ℕ
+addedKind = 5
+
 abbrev pub setKind : ℕ
 setKind = 9
 
@@ -36,9 +39,10 @@ lineLayout d i v Y r c round = record { w0 = lineKind; w1 = d; w2 = i; w3 = v; w
 abbrev pub openingLayout : ℕ → ℕ → ℕ → Record
 openingLayout d u round = record { w0 = openingKind; w1 = d; w2 = 0; w3 = u; w4 = 0; w5 = 0; w6 = 0; w7 = round }
 
--- an opened share (a decrypted share) Z, the paper's S, of dealer d and member i with its proof, challenge c and response r
-abbrev pub shareLayout : ℕ → ℕ → ℕ → ℕ → ℕ → ℕ → Record
-shareLayout d i Z c r round = record { w0 = shareKind; w1 = d; w2 = i; w3 = Z; w4 = c; w5 = r; w6 = 0; w7 = round }
+-- a decrypted share Z, the paper's S, of dealer d and member i with its proof, challenge c and response r: an opened share, or an added
+-- share, which is of kind 5 and dealer 0
+abbrev pub shareLayout : ℕ → ℕ → ℕ → ℕ → ℕ → ℕ → ℕ → Record
+shareLayout kind d i Z c r round = record { w0 = kind; w1 = d; w2 = i; w3 = Z; w4 = c; w5 = r; w6 = 0; w7 = round }
 
 -- the round: the group's number g, n and t, the round's own number in word 4, and the first round under the new rule in word 5
 abbrev pub setLayout : ℕ → ℕ → ℕ → ℕ → ℕ → Record
@@ -75,7 +79,7 @@ cOf r = r .w6
 abbrev pub uOf : Record → ℕ
 uOf r = r .w3
 
--- of an opened share
+-- of an opened or added share
 abbrev pub ZOf : Record → ℕ
 ZOf r = r .w3
 
@@ -117,8 +121,8 @@ isLineRecord r = agrees r (lineLayout (dealerOf r) (memberOf r) (vOf r) (YOf r) 
 abbrev pub isOpeningRecord : Record → Bool
 isOpeningRecord r = agrees r (openingLayout (dealerOf r) (uOf r) (roundOf r))
 
-abbrev pub isShareRecord : Record → Bool
-isShareRecord r = agrees r (shareLayout (dealerOf r) (memberOf r) (ZOf r) (shareC r) (shareR r) (roundOf r))
+abbrev pub isShareRecord : ℕ → Record → Bool
+isShareRecord kind r = agrees r (shareLayout kind (dealerOf r) (memberOf r) (ZOf r) (shareC r) (shareR r) (roundOf r))
 
 abbrev pub isSetRecord : Record → Bool
 isSetRecord r = agrees r (setLayout (setGroup r) (setN r) (setT r) (setRound r) (setFirst r))

@@ -16,6 +16,8 @@ pub const OPENING: u32 = 3;
 
 pub const SHARE: u32 = 4;
 
+pub const ADDED: u32 = 5;
+
 pub const SET: u32 = 9;
 
 // The key y of member i.
@@ -74,8 +76,10 @@ pub fn opening_record(d: u32, u: Exponent, round: u32) -> Record
     }
 }
 
-// An opened share (a decrypted share) of dealer d and member i, and its proof's challenge and response.
+// A decrypted share of dealer d and member i, and its proof's challenge and response: of kind SHARE an opened share, of kind ADDED
+// and dealer 0 an added share.
 pub fn share_record(
+    kind: u32,
     d: u32,
     i: u32,
     decrypted: Element,
@@ -83,10 +87,10 @@ pub fn share_record(
     r: Exponent,
     round: u32,
 ) -> Record
-    ensures { λ a. ⌜ a ≡ shareLayout d i (decrypted .0) (c .0) (r .0) round ⌝ }
+    ensures { λ a. ⌜ a ≡ shareLayout kind d i (decrypted .0) (c .0) (r .0) round ⌝ }
 {
     Record {
-        w0: SHARE,
+        w0: kind,
         w1: d,
         w2: i,
         w3: decrypted.0,
@@ -170,12 +174,13 @@ pub fn is_opening_record(r: Record) -> bool
     agrees(r, opening_record(r.w1, Exponent(r.w3), r.w7))
 }
 
-pub fn is_share_record(r: Record) -> bool
-    ensures { λ a. ⌜ a ≡ isShareRecord r ⌝ }
+pub fn is_share_record(kind: u32, r: Record) -> bool
+    ensures { λ a. ⌜ a ≡ isShareRecord kind r ⌝ }
 {
     agrees(
         r,
         share_record(
+            kind,
             r.w1,
             r.w2,
             Element(r.w3),

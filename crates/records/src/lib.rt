@@ -6,6 +6,7 @@ pub use keys::all_keys;
 pub use keys::is_key;
 pub use keys::is_secret_key;
 pub use keys::keys_refusal;
+pub use layout::ADDED;
 pub use layout::KEY;
 pub use layout::LINE;
 pub use layout::OPENING;

@@ -1,12 +1,14 @@
--- What the stages of an opened share settle, and back; and the bytes that are written, by the figures as they are computed.
+-- What the stages of a share settle, and back; and the bytes that are written, by the figures as they are computed.
 use mathlib.Core.Path.{_≡_, refl}
-use mathlib.Core.Bool.{true}
+use mathlib.Core.Bool.{Bool, true, false}
 use mathlib.Core.List.{List, _++_}
 use mathlib.Core.Logic.{_↔_}
 use Prim.Native.Nat.{ℕ, _≤_, _<_}
+use native.Mathlib.Omega.{arith}
 use borrow.Author.Tests.{eqb-true, eq-eqb, leb-true, ltb-true}
-use lib.Dec.{leb}
+use lib.Dec.{leb, eqb}
 use lib.ListN.{length}
+use Rattle.words.specs.Choice.{pick}
 use Rattle.words.specs.Checks.{refusal, Met}
 use Rattle.words.specs.Bytes.{recordBytes, recordIn}
 use Rattle.words.specs.declared.Record.{Record}
@@ -18,49 +20,62 @@ use Rattle.group.specs.Element.{isElement, isExponent}
 use Rattle.group.proofs.Elements.{exponent-true, true-exponent}
 use Rattle.sharing.specs.Setting.{isMember}
 use Rattle.sharing.specs.declared.Setting.{Setting}
-use Rattle.records.specs.Layout.{shareLayout, isShareRecord, dealerOf, memberOf, roundOf, shareC, shareR}
+use Rattle.records.specs.Layout.{addedKind, shareLayout, isShareRecord, dealerOf, memberOf, roundOf, shareC, shareR}
 use Rattle.records.specs.Keys.{isKey, isSecretKey}
-use Rattle.challenge.specs.Message.{challengeOf, shareMessage, shareTag}
+use Rattle.challenge.specs.Message.{challengeOf, shareMessage}
 use Rattle.equality.specs.Equality.{response}
 use Rattle.records.proofs.Members.{member-exactly}
-use Rattle.share.specs.Share.{keyOf, shareOf, writtenShareC, writtenShareRecord, writtenShare, membersChecks, writeShareChecks, shareInputChecks, isShareFor, shareFormChecks, shareAdmissionChecks, shareFigureChecks}
-use Rattle.share.specs.Claims.{AdmittedShare, ShareHolds}
+use Rattle.share.specs.declared.ShareForm.{ShareForm}
+use Rattle.share.specs.Share.{isDealer, keyOf, shareOf, writtenShareC, writtenShareRecord, writtenShare, membersChecks, writeShareChecks, shareInputChecks, isShareFor, shareFormChecks, shareAdmissionChecks, shareFigureChecks}
+use Rattle.share.specs.Claims.{NumbersByForm, AdmittedShare, ShareHolds}
 
 -- ---- dealer and member
-members-exactly : (S : Setting) (d i : ℕ) → Met (membersChecks S d i) ↔ (((1 ≤ d) × (d ≤ S .n)) × ((1 ≤ i) × (i ≤ S .n)))
+pub numbers-by-form : NumbersByForm
+unfolding membersChecks isDealer
+numbers-by-form S i = record { opened = λ d. refl; added = refl }
+
+members-exactly : (S : Setting) (F : ShareForm) (i : ℕ) → Met (membersChecks S F i) ↔ ((isDealer (S .n) F ≡ true) × ((1 ≤ i) × (i ≤ S .n)))
 unfolding membersChecks
-members-exactly S d i = (
-  λ m. let s = and-true (isMember (S .n) d) _ (m .0) in (member-exactly (S .n) d .0 (s .0), member-exactly (S .n) i .0 (s .1)),
-  λ s. (true-and (isMember (S .n) d) _ (member-exactly (S .n) d .1 (s .0)) (member-exactly (S .n) i .1 (s .1)), tt),
+members-exactly S F i = (
+  λ m. let s = and-true (isDealer (S .n) F) _ (m .0) in (s .0, member-exactly (S .n) i .0 (s .1)),
+  λ s. (true-and (isDealer (S .n) F) _ (s .0) (member-exactly (S .n) i .1 (s .1)), tt),
 )
 
+pub dealer-most : (n : ℕ) (F : ShareForm) → isDealer n F ≡ true → F .dealer ≤ n
+unfolding isDealer
+dealer-most n F = by-kind (eqb (F .kind) addedKind)
+  where
+    by-kind : (x : Bool) → pick x (eqb (F .dealer) 0) (isMember n (F .dealer)) ≡ true → F .dealer ≤ n
+    by-kind true e = omega (arith, eqb-true (F .dealer) 0 e)
+    by-kind false e = member-exactly n (F .dealer) .0 e .1
+
 -- ---- all before the figures
-module _ (S : Setting) (d i y Y : ℕ) (b : List ℕ) where
+module _ (S : Setting) (F : ShareForm) (i y Y : ℕ) (b : List ℕ) where
   -- the stages of it, but for the round
-  pub admission-stages : AdmittedShare S d i y Y b (recordIn b)
-      → Met (membersChecks S d i) × Met (shareInputChecks (S .group) y Y b) × (isShareFor d i (recordIn b) ≡ true)
+  pub admission-stages : AdmittedShare S F i y Y b (recordIn b)
+      → Met (membersChecks S F i) × Met (shareInputChecks (S .group) y Y b) × (isShareFor F i (recordIn b) ≡ true)
   unfolding shareInputChecks
   admission-stages A =
       let r = recordIn b in (
-        members-exactly S d i .1 (A .dealer, A .member),
+        members-exactly S F i .1 (A .dealer, A .member),
         (eq-eqb (length b) 32 (A .size), (true-and (isKey (S .group) y) _ (A .key) (A .Y-element), tt)),
-        true-and (isShareRecord r) _ (A .kind) (true-equal (dealerOf r) d (memberOf r) i (A .dealer-word) (A .member-word)),
+        true-and (isShareRecord (F .kind) r) _ (A .kind) (true-equal (dealerOf r) (F .dealer) (memberOf r) i (A .dealer-word) (A .member-word)),
       )
 
-  pub admission-exactly : Met (shareAdmissionChecks S d i y Y b) ↔ AdmittedShare S d i y Y b (recordIn b)
+  pub admission-exactly : Met (shareAdmissionChecks S F i y Y b) ↔ AdmittedShare S F i y Y b (recordIn b)
   unfolding shareAdmissionChecks shareInputChecks shareFormChecks
   admission-exactly =
       let r = recordIn b in
-      let numbers = membersChecks S d i in
+      let numbers = membersChecks S F i in
       let inputs = shareInputChecks (S .group) y Y b in
-      let form = shareFormChecks (S .round) d i r in (
+      let form = shareFormChecks (S .round) F i r in (
         λ m.
             let behind = met-both (numbers ++ inputs) form m in
             let front = met-both numbers inputs (behind .0) in
-            let within = members-exactly S d i .0 (front .0) in
+            let within = members-exactly S F i .0 (front .0) in
             let elements = and-true (isKey (S .group) y) _ (front .1 .1 .0) in
-            let laid = and-true (isShareRecord r) _ (behind .1 .0) in
-            let posted = equal-true (dealerOf r) d (memberOf r) i (laid .1) in
+            let laid = and-true (isShareRecord (F .kind) r) _ (behind .1 .0) in
+            let posted = equal-true (dealerOf r) (F .dealer) (memberOf r) i (laid .1) in
             record {
               dealer = within .0;
               member = within .1;
@@ -77,14 +92,14 @@ module _ (S : Setting) (d i y Y : ℕ) (b : List ℕ) where
             both-met (numbers ++ inputs) form (both-met numbers inputs (s .0) (s .1)) (s .2, (eq-eqb (roundOf r) (S .round) (A .round), tt)),
       )
 
-  pub admission-none : {k : ℕ} → k ≡ refusal (shareAdmissionChecks S d i y Y b) → k ≡ 0 → AdmittedShare S d i y Y b (recordIn b)
+  pub admission-none : {k : ℕ} → k ≡ refusal (shareAdmissionChecks S F i y Y b) → k ≡ 0 → AdmittedShare S F i y Y b (recordIn b)
   unfolding shareAdmissionChecks membersChecks shareInputChecks shareFormChecks
-  admission-none e z = admission-exactly .0 (stage-met (shareAdmissionChecks S d i y Y b) e refl z)
+  admission-none e z = admission-exactly .0 (stage-met (shareAdmissionChecks S F i y Y b) e refl z)
 
 -- ---- the figures
-pub figures-exactly : (tag : ℕ) (S : Setting) (d i y Y : ℕ) (r : Record) → Met (shareFigureChecks tag S d i y Y r) ↔ ShareHolds tag S d i y Y r
+pub figures-exactly : (S : Setting) (F : ShareForm) (i y Y : ℕ) (r : Record) → Met (shareFigureChecks S F i y Y r) ↔ ShareHolds S F i y Y r
 unfolding shareFigureChecks
-figures-exactly tag S d i y Y r =
+figures-exactly S F i y Y r =
     let G = S .group in
     let c = shareC r in (
       λ m.
@@ -101,8 +116,8 @@ figures-exactly tag S d i y Y r =
     )
 
 -- ---- what is asked of a share that is written
-pub record WritableShare (S : Setting) (d i Y x w room : ℕ) : Type 0 where
-  pub dealer : (1 ≤ d) × (d ≤ S .n)
+pub record WritableShare (S : Setting) (F : ShareForm) (i Y x w room : ℕ) : Type 0 where
+  pub dealer : isDealer (S .n) F ≡ true
   pub member : (1 ≤ i) × (i ≤ S .n)
   pub size : room ≡ 32
   pub Y-element : isElement (S .group) Y ≡ true
@@ -110,12 +125,12 @@ pub record WritableShare (S : Setting) (d i Y x w room : ℕ) : Type 0 where
   pub x-low : x < S .group .q
   pub w-low : w < S .group .q
 
-module _ (S : Setting) (d i Y x w room : ℕ) where
-  pub write-settled : Met (writeShareChecks S d i Y x w room) → WritableShare S d i Y x w room
+module _ (S : Setting) (F : ShareForm) (i Y x w room : ℕ) where
+  pub write-settled : Met (writeShareChecks S F i Y x w room) → WritableShare S F i Y x w room
   unfolding writeShareChecks isSecretKey
   write-settled m =
-      let s = met-both (membersChecks S d i) _ m in
-      let numbers = members-exactly S d i .0 (s .0) in
+      let s = met-both (membersChecks S F i) _ m in
+      let numbers = members-exactly S F i .0 (s .0) in
       let figures = s .1 in
       let low = and-true (isSecretKey (S .group) x) _ (figures .1 .1 .0) in
       let secret = and-true (leb 1 x) _ (low .0) in
@@ -129,15 +144,15 @@ module _ (S : Setting) (d i Y x w room : ℕ) where
         w-low = exponent-true (S .group) w (low .1);
       }
 
-  pub write-none : {k : ℕ} → k ≡ refusal (writeShareChecks S d i Y x w room) → k ≡ 0 → Met (writeShareChecks S d i Y x w room)
+  pub write-none : {k : ℕ} → k ≡ refusal (writeShareChecks S F i Y x w room) → k ≡ 0 → Met (writeShareChecks S F i Y x w room)
   unfolding writeShareChecks membersChecks
-  write-none e z = stage-met (writeShareChecks S d i Y x w room) e refl z
+  write-none e z = stage-met (writeShareChecks S F i Y x w room) e refl z
 
 -- ---- what is written
-pub share-bytes : (S : Setting) (d i Y x w : ℕ) {k Z y a1 a2 c r : ℕ}
+pub share-bytes : (S : Setting) (F : ShareForm) (i Y x w : ℕ) {k Z y a1 a2 c r : ℕ}
     → k ≡ inv (S .group .q) x → Z ≡ pow (S .group .p) Y k → y ≡ pow (S .group .p) (S .group .h .0) x
     → a1 ≡ pow (S .group .p) (S .group .h .0) w → a2 ≡ pow (S .group .p) Z w
-    → c ≡ challengeOf S (shareMessage shareTag S d i y Y Z a1 a2) → r ≡ response (S .group) w c x
-    → recordBytes (shareLayout d i Z c r (S .round)) ≡ writtenShare S d i Y x w
+    → c ≡ challengeOf S (shareMessage (F .tag) S (F .dealer) i y Y Z a1 a2) → r ≡ response (S .group) w c x
+    → recordBytes (shareLayout (F .kind) (F .dealer) i Z c r (S .round)) ≡ writtenShare S F i Y x w
 unfolding writtenShare writtenShareRecord writtenShareC shareOf keyOf
-share-bytes S d i Y x w k-is Z-is y-is a1-is a2-is c-is r-is = cc
+share-bytes S F i Y x w k-is Z-is y-is a1-is a2-is c-is r-is = cc

@@ -1,4 +1,5 @@
--- Opened shares: accepted exactly if their figures are proper and the challenge is the recomputed one, and what is written is accepted.
+-- Shares, opened or added: accepted exactly if their figures are proper and the challenge is the recomputed one, and what is written is
+-- accepted.
 -- The response gives back the announcements of the nonce, so the challenge is recomputed over the same message.
 use mathlib.Core.Path.{_≡_, refl, sym, ap, _∙_, subst}
 use mathlib.Core.Bool.{Bool, true}
@@ -24,9 +25,10 @@ use Rattle.group.proofs.Elements.{power-element}
 use Rattle.sharing.specs.Setting.{ProperSetting, settingIn, inRound, roundChecks, judged, judgedElse}
 use Rattle.sharing.specs.declared.Setting.{Setting}
 use Rattle.sharing.proofs.Rounds.{round-proper, judged-in, judged-else-in, judged-exactly}
-use Rattle.records.specs.Layout.{shareKind, roundOf, ZOf}
-use Rattle.challenge.specs.Message.{challengeOf, shareMessage, shareTag}
+use Rattle.records.specs.Layout.{roundOf, ZOf}
+use Rattle.challenge.specs.Message.{challengeOf, shareMessage}
 use Rattle.equality.specs.Equality.{announced, response}
+use Rattle.share.specs.declared.ShareForm.{ShareForm}
 use Rattle.share.specs.Share.{keyOf, shareOf, writtenShareC, writtenShareRecord, writtenShare, writeShareChecks, writeShareIn, writeShareOutcome, lentAfterShareIn, lentAfterShare}
 use Rattle.share.specs.Share.{membersChecks, shareInputChecks, shareFormChecks, shareRecomputed, shareAdmissionChecks, shareFigureChecks, judgeShareChecks, judgeShareFiguresIn, judgeShareIn, judgeShareOutcome}
 use Rattle.share.specs.Claims.{AcceptedShare, ShareExactly, FiguresDecide, ShareOfOtherRound, ShareComplete, ShareForOtherRound, LentShare, LentShareKept, SharesByRound}
@@ -34,39 +36,39 @@ use Rattle.records.proofs.Layouts.{laid-agrees}
 use Rattle.records.proofs.Posted.{member-word, element-word, exponent-word}
 use Rattle.challenge.proofs.Challenges.{challenge-low}
 use Rattle.equality.proofs.Equal.{response-low, announced-back}
-use Rattle.share.proofs.Settled.{WritableShare, admission-exactly, admission-stages, figures-exactly, write-settled}
+use Rattle.share.proofs.Settled.{dealer-most, WritableShare, admission-exactly, admission-stages, figures-exactly, write-settled}
 use Rattle.share.proofs.Keys.{h-element, key-proper, share-to-x}
 
 -- ---- judged
 pub share-exactly : ShareExactly
 unfolding judgeShareIn
-share-exactly S d i y Y b =
+share-exactly S F i y Y b =
     let r = recordIn b in
-    let front = shareAdmissionChecks S d i y Y b in
-    let figures = shareFigureChecks shareTag S d i y Y r in
+    let front = shareAdmissionChecks S F i y Y b in
+    let figures = shareFigureChecks S F i y Y r in
     let all-met = value-exactly Element (front ++ figures) (record { 0 = ZOf r }) in (
       λ e.
           let m = met-both front figures (all-met .0 e) in
-          record { admitted = admission-exactly S d i y Y b .0 (m .0); holds = figures-exactly shareTag S d i y Y r .0 (m .1) },
-      λ A. all-met .1 (both-met front figures (admission-exactly S d i y Y b .1 (A .admitted)) (figures-exactly shareTag S d i y Y r .1 (A .holds))),
+          record { admitted = admission-exactly S F i y Y b .0 (m .0); holds = figures-exactly S F i y Y r .0 (m .1) },
+      λ A. all-met .1 (both-met front figures (admission-exactly S F i y Y b .1 (A .admitted)) (figures-exactly S F i y Y r .1 (A .holds))),
     )
 
 pub share-of-other-round : ShareOfOtherRound
 unfolding judgeShareIn shareAdmissionChecks shareFormChecks
-share-of-other-round S d i y Y b m k e n =
+share-of-other-round S F i y Y b m k e n =
     let r = recordIn b in
     let inputs = shareInputChecks (S .group) y Y b in
-    let form : FirstUnmet 17 (shareFormChecks (S .round) d i r) = inr (e, inl (ne-eqb (roundOf r) (S .round) n, refl)) in
-    let front = rest-first (membersChecks S d i ++ inputs) (shareFormChecks (S .round) d i r) 17 (both-met (membersChecks S d i) inputs m k) form in
-    sym (front-outcome (shareAdmissionChecks S d i y Y b) (shareFigureChecks shareTag S d i y Y r) 17 front (record { 0 = ZOf r }))
+    let form : FirstUnmet 17 (shareFormChecks (S .round) F i r) = inr (e, inl (ne-eqb (roundOf r) (S .round) n, refl)) in
+    let front = rest-first (membersChecks S F i ++ inputs) (shareFormChecks (S .round) F i r) 17 (both-met (membersChecks S F i) inputs m k) form in
+    sym (front-outcome (shareAdmissionChecks S F i y Y b) (shareFigureChecks S F i y Y r) 17 front (record { 0 = ZOf r }))
 
 pub figures-decide : FiguresDecide
 unfolding judgeShareIn judgeShareFiguresIn
-figures-decide S d i y Y b A =
-    rest-outcome (shareAdmissionChecks S d i y Y b) (shareFigureChecks shareTag S d i y Y (recordIn b)) (admission-exactly S d i y Y b .1 A) (record { 0 = ZOf (recordIn b) })
+figures-decide S F i y Y b A =
+    rest-outcome (shareAdmissionChecks S F i y Y b) (shareFigureChecks S F i y Y (recordIn b)) (admission-exactly S F i y Y b .1 A) (record { 0 = ZOf (recordIn b) })
 
 -- ---- written
-module _ (S : Setting) (P : ProperSetting S) (word : S .round < 2 ^ 32) (d i Y x w room : ℕ) (W : WritableShare S d i Y x w room) where
+module _ (S : Setting) (P : ProperSetting S) (word : S .round < 2 ^ 32) (F : ShareForm) (kind : F .kind < 2 ^ 32) (i Y x w room : ℕ) (W : WritableShare S F i Y x w room) where
   abbrev G : Group
   G = S .group
 
@@ -77,10 +79,10 @@ module _ (S : Setting) (P : ProperSetting S) (word : S .round < 2 ^ 32) (d i Y x
   y = keyOf G x
 
   abbrev c : ℕ
-  c = writtenShareC shareTag S d i Y x w
+  c = writtenShareC S F i Y x w
 
   abbrev written : Record
-  written = writtenShareRecord S d i Y x w
+  written = writtenShareRecord S F i Y x w
 
   Z-element : isElement G Z ≡ true
   unfolding shareOf
@@ -100,11 +102,11 @@ module _ (S : Setting) (P : ProperSetting S) (word : S .round < 2 ^ 32) (d i Y x
       ap (λ (v : ℕ). announced G Z v c (response G w c x)) (sym (share-to-x G (P .proper) x (W .x-some) (W .x-low) Y (W .Y-element)))
       ∙ announced-back G (P .proper) Z w c x Z-element
 
-  recomputed-same : shareRecomputed shareTag S d i y Y written ≡ c
+  recomputed-same : shareRecomputed S F i y Y written ≡ c
   unfolding shareRecomputed writtenShareRecord writtenShareC
-  recomputed-same = λ j. challengeOf S (shareMessage shareTag S d i y Y Z (announced-h j) (announced-Z j))
+  recomputed-same = λ j. challengeOf S (shareMessage (F .tag) S (F .dealer) i y Y Z (announced-h j) (announced-Z j))
 
-  written-proper : AcceptedShare S d i y Y (writtenShare S d i Y x w) written
+  written-proper : AcceptedShare S F i y Y (writtenShare S F i Y x w) written
   unfolding writtenShare writtenShareRecord
   written-proper =
       record {
@@ -126,12 +128,11 @@ module _ (S : Setting) (P : ProperSetting S) (word : S .round < 2 ^ 32) (d i Y x
   words : Below (2 ^ 32) (recordWords written)
   unfolding writtenShareRecord
   words =
-      let kind : shareKind < 2 ^ 32 = omega arith in
       let spare : 0 < 2 ^ 32 = omega arith in
       let r-low = response-low G (P .proper) w c x in (
         kind,
         (
-          member-word P d (W .dealer .1),
+          member-word P (F .dealer) (dealer-most (S .n) F (W .dealer)),
           (
             member-word P i (W .member .1),
             (
@@ -142,73 +143,73 @@ module _ (S : Setting) (P : ProperSetting S) (word : S .round < 2 ^ 32) (d i Y x
         ),
       )
 
-  read-written : recordIn (writtenShare S d i Y x w) ≡ written
+  read-written : recordIn (writtenShare S F i Y x w) ≡ written
   unfolding writtenShare
   read-written = read-back written words
 
-  pub written-accepted : judgeShareIn S d i y Y (writtenShare S d i Y x w) ≡ value (record { 0 = Z })
+  pub written-accepted : judgeShareIn S F i y Y (writtenShare S F i Y x w) ≡ value (record { 0 = Z })
   unfolding writtenShareRecord
   written-accepted =
-      let b : List ℕ = writtenShare S d i Y x w in
-      share-exactly S d i y Y b .1 (subst (AcceptedShare S d i y Y b) (sym read-written) written-proper)
+      let b : List ℕ = writtenShare S F i Y x w in
+      share-exactly S F i y Y b .1 (subst (AcceptedShare S F i y Y b) (sym read-written) written-proper)
       ∙ ap (λ (r : Record). value (record { 0 = ZOf r })) read-written
 
   -- in the round of another number, under either rule
   pub refused-elsewhere : (round : ℕ) → (round ≡ S .round → ⊥) → (whole : Bool)
-      → judgeShareIn (inRound round whole S) d i y Y (writtenShare S d i Y x w) ≡ refused 17
+      → judgeShareIn (inRound round whole S) F i y Y (writtenShare S F i Y x w) ≡ refused 17
   unfolding membersChecks writtenShareRecord
   refused-elsewhere round n whole =
-      let b : List ℕ = writtenShare S d i Y x w in
-      let A = subst (AcceptedShare S d i y Y b) (sym read-written) written-proper .admitted in
-      let m = admission-stages S d i y Y b A in
-      share-of-other-round (inRound round whole S) d i y Y b (m .0) (m .1) (m .2) (λ e. n (sym e ∙ A .round))
+      let b : List ℕ = writtenShare S F i Y x w in
+      let A = subst (AcceptedShare S F i y Y b) (sym read-written) written-proper .admitted in
+      let m = admission-stages S F i y Y b A in
+      share-of-other-round (inRound round whole S) F i y Y b (m .0) (m .1) (m .2) (λ e. n (sym e ∙ A .round))
 
 pub share-complete : ShareComplete
 unfolding writeShareIn
-share-complete S P k d i Y x w e =
-    written-accepted S P k d i Y x w 32 (write-settled S d i Y x w 32 (value-exactly Unit (writeShareChecks S d i Y x w 32) tt .0 e))
+share-complete S P k F l i Y x w e =
+    written-accepted S P k F l i Y x w 32 (write-settled S F i Y x w 32 (value-exactly Unit (writeShareChecks S F i Y x w 32) tt .0 e))
 
 pub share-for-other-round : ShareForOtherRound
 unfolding writeShareIn
-share-for-other-round S P k d i Y x w e =
-    refused-elsewhere S P k d i Y x w 32 (write-settled S d i Y x w 32 (value-exactly Unit (writeShareChecks S d i Y x w 32) tt .0 e))
+share-for-other-round S P k F l i Y x w e =
+    refused-elsewhere S P k F l i Y x w 32 (write-settled S F i Y x w 32 (value-exactly Unit (writeShareChecks S F i Y x w 32) tt .0 e))
 
 -- ---- the lent bytes
 pub lent-share : LentShare
 unfolding writeShareIn lentAfterShareIn
-lent-share S P k d i Y x w out e =
-    let checks = writeShareChecks S d i Y x w (length out) in
+lent-share S P k F l i Y x w out e =
+    let checks = writeShareChecks S F i Y x w (length out) in
     let m = value-exactly Unit checks tt .0 e in
-    ap (judgeShareIn S d i (keyOf (S .group) x) Y) (if-met (writtenShare S d i Y x w) out checks m)
-    ∙ written-accepted S P k d i Y x w (length out) (write-settled S d i Y x w (length out) m)
+    ap (judgeShareIn S F i (keyOf (S .group) x) Y) (if-met (writtenShare S F i Y x w) out checks m)
+    ∙ written-accepted S P k F l i Y x w (length out) (write-settled S F i Y x w (length out) m)
 
 pub lent-share-kept : LentShareKept
 unfolding writeShareIn lentAfterShareIn
-lent-share-kept S d i Y x w out k e =
-    let checks = writeShareChecks S d i Y x w (length out) in
-    if-unmet (writtenShare S d i Y x w) out checks k (refused-exactly Unit checks tt k .0 e)
+lent-share-kept S F i Y x w out k e =
+    let checks = writeShareChecks S F i Y x w (length out) in
+    if-unmet (writtenShare S F i Y x w) out checks k (refused-exactly Unit checks tt k .0 e)
 
 -- ---- over a round
 pub shares-by-round : SharesByRound
 unfolding judgeShareOutcome judgeShareIn writeShareOutcome writeShareIn lentAfterShare lentAfterShareIn judged judgedElse
 shares-by-round R =
     record {
-      accepted = λ d i y Y b. judged-exactly R (λ S. judgeShareChecks S d i y Y b) (λ S. record { 0 = ZOf (recordIn b) });
-      written = λ d i Y x w room. judged-exactly R (λ S. writeShareChecks S d i Y x w room) (λ S. tt) tt;
-      lent = λ d i Y x w out m. judged-else-in R (λ S. writeShareChecks S d i Y x w (length out)) (λ S. writtenShare S d i Y x w) m out;
-      kept = λ d i Y x w out k e.
-          let checks = roundChecks R ++ writeShareChecks (settingIn R) d i Y x w (length out) in
-          if-unmet (writtenShare (settingIn R) d i Y x w) out checks k (refused-exactly Unit checks tt k .0 e);
+      accepted = λ F i y Y b. judged-exactly R (λ S. judgeShareChecks S F i y Y b) (λ S. record { 0 = ZOf (recordIn b) });
+      written = λ F i Y x w room. judged-exactly R (λ S. writeShareChecks S F i Y x w room) (λ S. tt) tt;
+      lent = λ F i Y x w out m. judged-else-in R (λ S. writeShareChecks S F i Y x w (length out)) (λ S. writtenShare S F i Y x w) m out;
+      kept = λ F i Y x w out k e.
+          let checks = roundChecks R ++ writeShareChecks (settingIn R) F i Y x w (length out) in
+          if-unmet (writtenShare (settingIn R) F i Y x w) out checks k (refused-exactly Unit checks tt k .0 e);
       complete = complete;
     }
   where
-    complete : R .round < 2 ^ 32 → (d i Y x w : ℕ) (out : List ℕ) → writeShareOutcome R d i Y x w (length out) ≡ value tt
-        → judgeShareOutcome R d i (keyOf (settingIn R .group) x) Y (lentAfterShare R d i Y x w out) ≡ value (record { 0 = shareOf (settingIn R .group) Y x })
-    complete k d i Y x w out e =
+    complete : R .round < 2 ^ 32 → (F : ShareForm) → F .kind < 2 ^ 32 → (i Y x w : ℕ) (out : List ℕ) → writeShareOutcome R F i Y x w (length out) ≡ value tt
+        → judgeShareOutcome R F i (keyOf (settingIn R .group) x) Y (lentAfterShare R F i Y x w out) ≡ value (record { 0 = shareOf (settingIn R .group) Y x })
+    complete k F l i Y x w out e =
         let y = keyOf (settingIn R .group) x in
-        let W = judged-exactly R (λ S. writeShareChecks S d i Y x w (length out)) (λ S. tt) tt .0 e in
-        let lent = judged-else-in R (λ S. writeShareChecks S d i Y x w (length out)) (λ S. writtenShare S d i Y x w) (W .0) out in
-        let b = lentAfterShare R d i Y x w out in
-        judged-in R (λ S. judgeShareChecks S d i y Y b) (λ S. record { 0 = ZOf (recordIn b) }) (W .0)
-        ∙ ap (judgeShareIn (settingIn R) d i y Y) lent
-        ∙ lent-share (settingIn R) (round-proper R (W .0)) k d i Y x w out (W .1)
+        let W = judged-exactly R (λ S. writeShareChecks S F i Y x w (length out)) (λ S. tt) tt .0 e in
+        let lent = judged-else-in R (λ S. writeShareChecks S F i Y x w (length out)) (λ S. writtenShare S F i Y x w) (W .0) out in
+        let b = lentAfterShare R F i Y x w out in
+        judged-in R (λ S. judgeShareChecks S F i y Y b) (λ S. record { 0 = ZOf (recordIn b) }) (W .0)
+        ∙ ap (judgeShareIn (settingIn R) F i y Y) lent
+        ∙ lent-share (settingIn R) (round-proper R (W .0)) k F l i Y x w out (W .1)

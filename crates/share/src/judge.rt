@@ -1,14 +1,15 @@
-// The judging of an opened share (a decrypted share).
+// The judging of a decrypted share, opened or added.
 ghost use mathlib.Core.Path.{_≡_};
 ghost use Prim.Native.Nat.{_≤_};
 ghost use Rattle.words.specs.Checks.{refusal};
 ghost use Rattle.group.specs.Answer.{elementOutcomeOf};
 ghost use Rattle.sharing.specs.Setting.{ProperSetting};
-ghost use Rattle.challenge.specs.Message.{shareTag};
-ghost use Rattle.share.specs.Share.{isShareFor, shareRecomputed, shareAdmissionChecks};
+ghost use Rattle.share.specs.Share.{openedForm, addedForm, isShareFor, shareRecomputed, shareAdmissionChecks};
 ghost use Rattle.share.specs.Share.{judgeShareFiguresIn, judgeShareIn, judgeShareOutcome};
-use crate::writer::are_members;
-use challenge::SHARE_TAG;
+use crate::ShareForm;
+use crate::form::added_form;
+use crate::form::are_members;
+use crate::form::opened_form;
 use challenge::ShareFigures;
 use challenge::share_challenge;
 use equality::announced;
@@ -26,14 +27,14 @@ use sharing::SettingAnswer;
 use sharing::setting_of;
 use words::Record;
 
-// Whether a record is an opened share of the member i for the dealer d.
-fn is_share_of(d: u32, i: u32, share: Record) -> bool
-    ensures { λ a. ⌜ a ≡ isShareFor d i share ⌝ }
+// Whether a record is a share of the member i in this form.
+fn is_share_of(form: ShareForm, i: u32, share: Record) -> bool
+    ensures { λ a. ⌜ a ≡ isShareFor form i share ⌝ }
 {
-    if !is_share_record(share) {
+    if !is_share_record(form.kind, share) {
         return false;
     }
-    if share.w1 != d {
+    if share.w1 != form.dealer {
         return false;
     }
     share.w2 == i
@@ -41,10 +42,17 @@ fn is_share_of(d: u32, i: u32, share: Record) -> bool
 
 // The first number refused of all that comes before the figures: 8, 3, 6 for y or the encrypted share, 4 and 17; 0 where none
 // is.
-fn admission_refusal(s: Setting, d: u32, i: u32, y: Element, encrypted: Element, b: &[u8]) -> u32
-    ensures { λ r. ⌜ r ≡ refusal (shareAdmissionChecks s d i (y .0) (encrypted .0) (now (b .entry))) ⌝ }
+fn admission_refusal(
+    s: Setting,
+    form: ShareForm,
+    i: u32,
+    y: Element,
+    encrypted: Element,
+    b: &[u8],
+) -> u32
+    ensures { λ r. ⌜ r ≡ refusal (shareAdmissionChecks s form i (y .0) (encrypted .0) (now (b .entry))) ⌝ }
 {
-    if !are_members(s.n, d, i) {
+    if !are_members(s.n, form, i) {
         return 8;
     }
     if b.len() != 32 {
@@ -57,7 +65,7 @@ fn admission_refusal(s: Setting, d: u32, i: u32, y: Element, encrypted: Element,
         return 6;
     }
     let share = words::read_record(b);
-    if !is_share_of(d, i, share) {
+    if !is_share_of(form, i, share) {
         return 4;
     }
     if !is_of_round(s.round, share) {
@@ -66,25 +74,24 @@ fn admission_refusal(s: Setting, d: u32, i: u32, y: Element, encrypted: Element,
     0
 }
 
-// The challenge that the figures of the record give, in a message of that tag.
+// The challenge that the figures of the record give.
 // Internal: callers ensure that the setting is proper, and a dealer and a member at most n.
 fn recomputed(
     s: Setting,
-    tag: u8,
-    d: u32,
+    form: ShareForm,
     i: u32,
     y: Element,
     encrypted: Element,
     share: Record,
 ) -> Exponent
-    requires { ⌜ (ProperSetting s) × (d ≤ s .n) × (i ≤ s .n) ⌝ }
-    ensures { λ c. ⌜ c .0 ≡ shareRecomputed tag s d i (y .0) (encrypted .0) share ⌝ }
+    requires { ⌜ (ProperSetting s) × (form .dealer ≤ s .n) × (i ≤ s .n) ⌝ }
+    ensures { λ c. ⌜ c .0 ≡ shareRecomputed s form i (y .0) (encrypted .0) share ⌝ }
 {
     let decrypted = Element(share.w3);
     let c = Exponent(share.w4);
     let r = Exponent(share.w5);
     let figures = ShareFigures {
-        dealer: d,
+        dealer: form.dealer,
         member: i,
         y,
         encrypted,
@@ -92,22 +99,23 @@ fn recomputed(
         a1: announced(s.group, s.group.h, y, c, r),
         a2: announced(s.group, decrypted, encrypted, c, r),
     };
-    share_challenge(s, tag, figures)
+    share_challenge(s, form.tag, figures)
 }
 
-// Judges the figures of a share by their message's tag: 6, 7 and 10 as judge_share_figures.
-// Internal: callers ensure that the setting is proper, and a dealer (which may be 0) and a member at most n.
-fn judge_figures(
+// Judges the figures of a share alone: an accepted one answers the decrypted share. Refused: 6 it is no element; 7 c or r is not
+// below q; 10 c is not the recomputed one.
+// Internal: callers ensure that the setting is proper, and a dealer and a member at most n; and where it is to be the whole
+// judgement, all that admission_refusal tests.
+pub fn judge_share_figures(
     s: Setting,
-    tag: u8,
-    d: u32,
+    form: ShareForm,
     i: u32,
     y: Element,
     encrypted: Element,
     share: Record,
 ) -> ElementAnswer
-    requires { ⌜ (ProperSetting s) × (d ≤ s .n) × (i ≤ s .n) ⌝ }
-    ensures { λ a. ⌜ elementOutcomeOf a ≡ judgeShareFiguresIn tag s d i (y .0) (encrypted .0) share ⌝ }
+    requires { ⌜ (ProperSetting s) × (form .dealer ≤ s .n) × (i ≤ s .n) ⌝ }
+    ensures { λ a. ⌜ elementOutcomeOf a ≡ judgeShareFiguresIn s form i (y .0) (encrypted .0) share ⌝ }
 {
     if !is_element(s.group, Element(share.w3)) {
         return ElementAnswer::Refused(6);
@@ -118,47 +126,46 @@ fn judge_figures(
     if !is_exponent(s.group, Exponent(share.w5)) {
         return ElementAnswer::Refused(7);
     }
-    if share.w4 != recomputed(s, tag, d, i, y, encrypted, share).0 {
+    if share.w4 != recomputed(s, form, i, y, encrypted, share).0 {
         return ElementAnswer::Refused(10);
     }
     ElementAnswer::Value(Element(share.w3))
 }
 
-// Judges the figures of an opened share alone: an accepted one answers the decrypted share. Refused: 6 it is no element;
-// 7 c or r is not below q; 10 c is not the recomputed one.
-// Internal: callers ensure that the setting is proper, and a dealer and a member at most n; and where it is to be the whole
-// judgement, all that admission_refusal tests.
-pub fn judge_share_figures(
-    s: Setting,
-    d: u32,
-    i: u32,
-    y: Element,
-    encrypted: Element,
-    share: Record,
-) -> ElementAnswer
-    requires { ⌜ (ProperSetting s) × (d ≤ s .n) × (i ≤ s .n) ⌝ }
-    ensures { λ a. ⌜ elementOutcomeOf a ≡ judgeShareFiguresIn shareTag s d i (y .0) (encrypted .0) share ⌝ }
-{
-    judge_figures(s, SHARE_TAG, d, i, y, encrypted, share)
-}
-
 // The judging in a setting: 8, 3, 6, 4, 17, 6, 7 and 10 as judge_share. Internal: callers ensure that the setting is proper.
-pub fn judge_share_in(
+fn judge_in(
     s: Setting,
-    d: u32,
+    form: ShareForm,
     i: u32,
     y: Element,
     encrypted: Element,
     b: &[u8],
 ) -> ElementAnswer
     requires { ⌜ ProperSetting s ⌝ }
-    ensures { λ a. ⌜ elementOutcomeOf a ≡ judgeShareIn s d i (y .0) (encrypted .0) (now (b .entry)) ⌝ }
+    ensures { λ a. ⌜ elementOutcomeOf a ≡ judgeShareIn s form i (y .0) (encrypted .0) (now (b .entry)) ⌝ }
 {
-    let k = admission_refusal(s, d, i, y, encrypted, b);
+    let k = admission_refusal(s, form, i, y, encrypted, b);
     if k != 0 {
         return ElementAnswer::Refused(k);
     }
-    judge_share_figures(s, d, i, y, encrypted, words::read_record(b))
+    judge_share_figures(s, form, i, y, encrypted, words::read_record(b))
+}
+
+// The judging over a round, in a form: 1 and 2 as setting_of, and then as in its setting.
+fn judge(
+    rd: Round,
+    form: ShareForm,
+    i: u32,
+    y: Element,
+    encrypted: Element,
+    b: &[u8],
+) -> ElementAnswer
+    ensures { λ a. ⌜ elementOutcomeOf a ≡ judgeShareOutcome rd form i (y .0) (encrypted .0) (now (b .entry)) ⌝ }
+{
+    match setting_of(rd) {
+        SettingAnswer::Refused(k) => ElementAnswer::Refused(k),
+        SettingAnswer::Value(s) => judge_in(s, form, i, y, encrypted, b),
+    }
 }
 
 // Judges the record b of an opened share of the member i for the dealer d, with the key y of the member and the encrypted share
@@ -173,10 +180,17 @@ pub fn judge_share(
     encrypted: Element,
     b: &[u8],
 ) -> ElementAnswer
-    ensures { λ a. ⌜ elementOutcomeOf a ≡ judgeShareOutcome rd d i (y .0) (encrypted .0) (now (b .entry)) ⌝ }
+    ensures { λ a. ⌜ elementOutcomeOf a ≡ judgeShareOutcome rd (openedForm d) i (y .0) (encrypted .0) (now (b .entry)) ⌝ }
 {
-    match setting_of(rd) {
-        SettingAnswer::Refused(k) => ElementAnswer::Refused(k),
-        SettingAnswer::Value(s) => judge_share_in(s, d, i, y, encrypted, b),
-    }
+    judge(rd, opened_form(d), i, y, encrypted, b)
+}
+
+// Judges the record b of an added share of the member i, with the key y of the member and the product of the encrypted shares of
+// his lines over all accepted dealings: an accepted one answers the decrypted share. Refused: 1 and 2 as setting_of; 8 i is no
+// member; 3 not 32 bytes; 6 y or the product is no element, or y is 1; 4 no record of an added share of i; 17 one of another
+// round; 6 the decrypted share is no element; 7 c or r is not below q; 10 c is not the recomputed one.
+pub fn judge_added(rd: Round, i: u32, y: Element, encrypted: Element, b: &[u8]) -> ElementAnswer
+    ensures { λ a. ⌜ elementOutcomeOf a ≡ judgeShareOutcome rd addedForm i (y .0) (encrypted .0) (now (b .entry)) ⌝ }
+{
+    judge(rd, added_form(), i, y, encrypted, b)
 }

@@ -1,14 +1,16 @@
-// The writing of an opened share (a decrypted share).
+// The writing of a decrypted share, opened or added.
 ghost use mathlib.Core.Path.{_≡_};
-ghost use mathlib.Core.Bool.{_&&_};
 ghost use Prim.Native.Nat.{_<_, _≤_};
 ghost use lib.ListN.{length};
 ghost use Rattle.words.specs.Checks.{refusal};
-ghost use Rattle.sharing.specs.Setting.{ProperSetting, isMember};
+ghost use Rattle.sharing.specs.Setting.{ProperSetting};
 ghost use Rattle.sharing.specs.Answer.{checkOutcomeOf};
-ghost use Rattle.share.specs.Share.{writtenShare, writeShareChecks, writeShareIn, writeShareOutcome};
+ghost use Rattle.share.specs.Share.{openedForm, addedForm, writtenShare, writeShareChecks, writeShareIn, writeShareOutcome};
 ghost use Rattle.share.specs.Share.{lentAfterShareIn, lentAfterShare};
-use challenge::SHARE_TAG;
+use crate::ShareForm;
+use crate::form::added_form;
+use crate::form::are_members;
+use crate::form::opened_form;
 use challenge::ShareFigures;
 use challenge::share_challenge;
 use equality::response;
@@ -22,29 +24,21 @@ use sharing::CheckAnswer;
 use sharing::Round;
 use sharing::Setting;
 use sharing::SettingAnswer;
-use sharing::is_member;
 use sharing::setting_of;
-
-// Whether the dealer d and the member i are members.
-pub(crate) fn are_members(n: u32, d: u32, i: u32) -> bool
-    ensures { λ r. ⌜ r ≡ isMember n d && isMember n i ⌝ }
-{
-    is_member(n, d) && is_member(n, i)
-}
 
 // The first number refused in a setting, 0 where nothing is.
 fn write_refusal(
     s: Setting,
-    d: u32,
+    form: ShareForm,
     i: u32,
     encrypted: Element,
     x: Exponent,
     w: Exponent,
     room: usize,
 ) -> u32
-    ensures { λ r. ⌜ r ≡ refusal (writeShareChecks s d i (encrypted .0) (x .0) (w .0) room) ⌝ }
+    ensures { λ r. ⌜ r ≡ refusal (writeShareChecks s form i (encrypted .0) (x .0) (w .0) room) ⌝ }
 {
-    if !are_members(s.n, d, i) {
+    if !are_members(s.n, form, i) {
         return 8;
     }
     if room != 32 {
@@ -62,24 +56,24 @@ fn write_refusal(
     0
 }
 
-// Writes the opened share that the secret key x gives of the encrypted share, with the nonce w.
+// Writes the share that the secret key x gives of the encrypted share, with the nonce w.
 // Internal: callers ensure that the setting is proper, a dealer and a member at most n, a secret key, a nonce below q, and 32 bytes.
 fn put_share(
     s: Setting,
-    d: u32,
+    form: ShareForm,
     i: u32,
     encrypted: Element,
     x: Exponent,
     w: Exponent,
     out: &mut [u8],
 )
-    requires { ⌜ (ProperSetting s) × (d ≤ s .n) × (i ≤ s .n)
+    requires { ⌜ (ProperSetting s) × (form .dealer ≤ s .n) × (i ≤ s .n)
         × (0 < x .0) × (x .0 < s .group .q) × (w .0 < s .group .q) × (length (now out) ≡ 32) ⌝ }
-    ensures { λ _. ⌜ now (out .exit) ≡ writtenShare s d i (encrypted .0) (x .0) (w .0) ⌝ }
+    ensures { λ _. ⌜ now (out .exit) ≡ writtenShare s form i (encrypted .0) (x .0) (w .0) ⌝ }
 {
     let decrypted = encrypted.power(s.group, x.inverse(s.group));
     let figures = ShareFigures {
-        dealer: d,
+        dealer: form.dealer,
         member: i,
         y: s.group.h.power(s.group, x),
         encrypted,
@@ -87,15 +81,16 @@ fn put_share(
         a1: s.group.h.power(s.group, w),
         a2: decrypted.power(s.group, w),
     };
-    let c = share_challenge(s, SHARE_TAG, figures);
+    let c = share_challenge(s, form.tag, figures);
     let r = response(s.group, w, c, x);
-    words::write_record(out, share_record(d, i, decrypted, c, r, s.round));
+    let record = share_record(form.kind, form.dealer, i, decrypted, c, r, s.round);
+    words::write_record(out, record);
 }
 
 // The writing in a setting: 8, 3, 6 and 7 as write_share. Internal: callers ensure that the setting is proper.
-pub fn write_share_in(
+fn write_in(
     s: Setting,
-    d: u32,
+    form: ShareForm,
     i: u32,
     encrypted: Element,
     x: Exponent,
@@ -103,15 +98,34 @@ pub fn write_share_in(
     out: &mut [u8],
 ) -> CheckAnswer
     requires { ⌜ ProperSetting s ⌝ }
-    ensures { λ r. ⌜ checkOutcomeOf r ≡ writeShareIn s d i (encrypted .0) (x .0) (w .0) (length (now (out .entry))) ⌝ }
-    ensures { λ r. ⌜ now (out .exit) ≡ lentAfterShareIn s d i (encrypted .0) (x .0) (w .0) (now (out .entry)) ⌝ }
+    ensures { λ r. ⌜ checkOutcomeOf r ≡ writeShareIn s form i (encrypted .0) (x .0) (w .0) (length (now (out .entry))) ⌝ }
+    ensures { λ r. ⌜ now (out .exit) ≡ lentAfterShareIn s form i (encrypted .0) (x .0) (w .0) (now (out .entry)) ⌝ }
 {
-    let k = write_refusal(s, d, i, encrypted, x, w, out.len());
+    let k = write_refusal(s, form, i, encrypted, x, w, out.len());
     if k != 0 {
         return CheckAnswer::Refused(k);
     }
-    put_share(s, d, i, encrypted, x, w, out);
+    put_share(s, form, i, encrypted, x, w, out);
     CheckAnswer::Passed
+}
+
+// The writing over a round, in a form: 1 and 2 as setting_of, and then as in its setting.
+fn write(
+    rd: Round,
+    form: ShareForm,
+    i: u32,
+    encrypted: Element,
+    x: Exponent,
+    w: Exponent,
+    out: &mut [u8],
+) -> CheckAnswer
+    ensures { λ r. ⌜ checkOutcomeOf r ≡ writeShareOutcome rd form i (encrypted .0) (x .0) (w .0) (length (now (out .entry))) ⌝ }
+    ensures { λ r. ⌜ now (out .exit) ≡ lentAfterShare rd form i (encrypted .0) (x .0) (w .0) (now (out .entry)) ⌝ }
+{
+    match setting_of(rd) {
+        SettingAnswer::Refused(k) => CheckAnswer::Refused(k),
+        SettingAnswer::Value(s) => write_in(s, form, i, encrypted, x, w, out),
+    }
 }
 
 // Writes the opened share of the member i for the dealer d, from the encrypted share, the secret key x and the nonce w.
@@ -126,11 +140,25 @@ pub fn write_share(
     w: Exponent,
     out: &mut [u8],
 ) -> CheckAnswer
-    ensures { λ r. ⌜ checkOutcomeOf r ≡ writeShareOutcome rd d i (encrypted .0) (x .0) (w .0) (length (now (out .entry))) ⌝ }
-    ensures { λ r. ⌜ now (out .exit) ≡ lentAfterShare rd d i (encrypted .0) (x .0) (w .0) (now (out .entry)) ⌝ }
+    ensures { λ r. ⌜ checkOutcomeOf r ≡ writeShareOutcome rd (openedForm d) i (encrypted .0) (x .0) (w .0) (length (now (out .entry))) ⌝ }
+    ensures { λ r. ⌜ now (out .exit) ≡ lentAfterShare rd (openedForm d) i (encrypted .0) (x .0) (w .0) (now (out .entry)) ⌝ }
 {
-    match setting_of(rd) {
-        SettingAnswer::Refused(k) => CheckAnswer::Refused(k),
-        SettingAnswer::Value(s) => write_share_in(s, d, i, encrypted, x, w, out),
-    }
+    write(rd, opened_form(d), i, encrypted, x, w, out)
+}
+
+// Writes the added share of the member i, from the product of the encrypted shares of his lines over all accepted dealings, the
+// secret key x and the nonce w. Refused, with no lent byte changed: 1 and 2 as setting_of; 8 i is no member; 3 not 32 bytes; 6 the
+// product is no element; 7 x is 0 or not below q, or w is not below q.
+pub fn write_added(
+    rd: Round,
+    i: u32,
+    encrypted: Element,
+    x: Exponent,
+    w: Exponent,
+    out: &mut [u8],
+) -> CheckAnswer
+    ensures { λ r. ⌜ checkOutcomeOf r ≡ writeShareOutcome rd addedForm i (encrypted .0) (x .0) (w .0) (length (now (out .entry))) ⌝ }
+    ensures { λ r. ⌜ now (out .exit) ≡ lentAfterShare rd addedForm i (encrypted .0) (x .0) (w .0) (now (out .entry)) ⌝ }
+{
+    write(rd, added_form(), i, encrypted, x, w, out)
 }

@@ -13,7 +13,8 @@ use Rattle.sharing.specs.declared.Round.{Round}
 use Rattle.sharing.specs.declared.Setting.{Setting}
 use Rattle.sharing.proofs.Rounds.{round-proper, judged-exactly}
 use Rattle.board.specs.Board.{boardChecks}
-use Rattle.verdicts.specs.Verdict.{Judges, verdictOn, verdictsOn}
+use Rattle.verdicts.specs.Shares.{Judges}
+use Rattle.verdicts.specs.Verdict.{verdictOn, verdictsOn}
 use Rattle.verdicts.specs.Draw.{countAccepted, drawIn}
 use Rattle.verdicts.specs.declared.Secret.{Secret}
 use Rattle.verdicts.specs.declared.Secret.the-variants.{Opened, Recovered, Stuck}

@@ -18,8 +18,9 @@ use Rattle.sharing.specs.declared.SettingAnswer.{SettingAnswer}
 use Rattle.sharing.specs.declared.SettingAnswer.the-variants.{Value, Refused}
 use Rattle.sharing.proofs.Rounds.{judged-refused, judged-value}
 use Rattle.board.specs.Board.{boardChecks}
-use Rattle.verdicts.specs.Verdict.{Judges, verdictOn, verdictsOn}
-use Rattle.verdicts.specs.Draw.{drawChecks, drawOf, boardProduct, drawIn, placeFor, verdictPlaces}
+use Rattle.verdicts.specs.Shares.{Judges}
+use Rattle.verdicts.specs.Verdict.{verdictOn, verdictsOn}
+use Rattle.verdicts.specs.Draw.{drawChecks, drawValue, drawOf, drawIn, placeFor, verdictPlaces}
 use Rattle.verdicts.specs.Answered.{JudgementIn}
 use Rattle.verdicts.specs.declared.Verdict.{Verdict}
 use Rattle.verdicts.specs.declared.Verdict.the-variants.{None}
@@ -44,7 +45,7 @@ report-same J S b A h m a =
     let vs : verdictsAt (S .n) (A .verdicts) ≡ verdictsOn J S b =
     ap (verdictsAt (S .n)) (a .verdicts) ∙ places-verdicts (verdictOn J S b) (S .n) h in
     let e : elementOutcomeOf (A .draw) ≡ drawIn J S b =
-    a .draw ∙ rest-outcome (boardChecks S b) (drawChecks (S .t) (verdictsOn J S b)) m (boardProduct J S b) in
+    a .draw ∙ rest-outcome (boardChecks S b) (drawChecks J S b) m (drawValue J S b) in
     λ j. roundLine S ++ (dealerLines 1 (vs j) ++ (acceptedLine (a .accepted j) ++ drawLine (e j)))
 
 -- ---- the text by what is refused

@@ -5,7 +5,7 @@ use Prim.Native.Nat.{ℕ, _≤_}
 use lib.ListN.{length}
 use Rattle.words.specs.Bytes.{recordBytes}
 use Rattle.records.specs.Layout.{keyLayout, setLayout}
-use Rattle.verdicts.specs.Verdict.{Judges, judges}
+use Rattle.verdicts.specs.Shares.{Judges, judges}
 use Rattle.text.specs.Text.{drawText}
 
 -- no text is longer than 1,024 bytes

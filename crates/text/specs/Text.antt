@@ -12,7 +12,8 @@ use Rattle.sharing.specs.declared.Round.{Round}
 use Rattle.sharing.specs.declared.Setting.{Setting}
 use Rattle.records.specs.Layout.{setGroup, setN, setT, setRound, setFirst, isSetRecord}
 use Rattle.board.specs.Board.{boardChecks}
-use Rattle.verdicts.specs.Verdict.{Judges, verdictsOn}
+use Rattle.verdicts.specs.Shares.{Judges}
+use Rattle.verdicts.specs.Verdict.{verdictsOn}
 use Rattle.verdicts.specs.Draw.{countAccepted, drawIn}
 use Rattle.verdicts.specs.declared.Secret.{Secret}
 use Rattle.verdicts.specs.declared.Secret.the-variants.{Opened, Recovered, Stuck}

@@ -4,7 +4,7 @@ ghost use mathlib.Core.List.{_++_};
 ghost use lib.ListN.{length, drop};
 ghost use Rattle.words.specs.Checks.{refusal};
 ghost use Rattle.sharing.specs.Setting.{ProperSetting};
-ghost use Rattle.verdicts.specs.Verdict.{judges};
+ghost use Rattle.verdicts.specs.Shares.{judges};
 ghost use Rattle.text.specs.Text.{setChecks, boardTextIn, drawText};
 ghost use Rattle.text.specs.Buffer.{Written};
 

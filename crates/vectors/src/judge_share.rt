@@ -1,5 +1,5 @@
-// Cases of judging an opened share. The arguments are group, n, t, the dealer, the member and the record's length in
-// bytes; the payload has y, Y and the record.
+// Cases of judging a decrypted share: 10 an opened one, 21 an added one. The arguments are group, n, t, the dealer, which is 0
+// for an added one, the member and the record's length in bytes; the payload has y, Y and the record.
 use crate::payload;
 use crate::payload::Numbers;
 use crate::print;
@@ -12,6 +12,11 @@ pub(crate) fn run(case: Record, numbers: Numbers, space: &[u8]) {
     let encrypted = Element(figures.w1);
     let record = payload::part(space, 8, case.w6 as usize);
     let rd = payload::round(case, numbers);
-    let answer = share::judge_share(rd, case.w4, case.w5, y, encrypted, record);
-    print::element(b"judge_share ", answer);
+    if case.w0 == 21 {
+        let answer = share::judge_added(rd, case.w5, y, encrypted, record);
+        print::element(b"judge_added ", answer);
+    } else {
+        let answer = share::judge_share(rd, case.w4, case.w5, y, encrypted, record);
+        print::element(b"judge_share ", answer);
+    }
 }

@@ -1,4 +1,4 @@
--- The turns of the loop that gathers the t lowest members with accepted shares: after k records of the dealer's shares, which stand from s on,
+-- The turns of the loop that gathers the t lowest members with accepted shares: after k records of a form's shares, which stand from s on,
 -- it holds the first t that these give.
 use mathlib.Core.Path.{_≡_, refl, sym, ap, _∙_}
 use mathlib.Core.Bool.{Bool, true, false}
@@ -13,8 +13,9 @@ use Rattle.words.proofs.Lists.{map-length, map-append, up-last, filled-none, fi
 use Rattle.sharing.specs.declared.Setting.{Setting}
 use Rattle.records.specs.Layout.{memberOf, ZOf, recordAt}
 use Rattle.board.specs.Search.{filter}
-use Rattle.verdicts.specs.Verdict.{Judges, isShareBy, sharesBy}
-use Rattle.verdicts.specs.Gathered.{withShare, heldOf, lowestBy}
+use Rattle.share.specs.declared.ShareForm.{ShareForm}
+use Rattle.verdicts.specs.Shares.{Judges, isShareIn, sharesIn}
+use Rattle.verdicts.specs.Gathered.{withShare, heldOf, lowestIn}
 use Rattle.verdicts.specs.declared.GatheredShares.{GatheredShares}
 
 -- ---- the first t of a list
@@ -76,44 +77,44 @@ held-more b is i h =
     λ j. record { members = more (λ i. memberOf (recordAt b i)) j; shares = more (λ i. ZOf (recordAt b i)) j; count = sym (length-append is (i ∷ [])) j }
 
 -- ---- the loop
-module _ (J : Judges) (S : Setting) (b : List ℕ) (d s : ℕ) where
+module _ (J : Judges) (S : Setting) (b : List ℕ) (F : ShareForm) (Ys : List ℕ) (s : ℕ) where
   abbrev pub heldAt : ℕ → GatheredShares
-  heldAt k = heldOf b (lowest (isShareBy J S b d) s (S .t) k)
+  heldAt k = heldOf b (lowest (isShareIn J S b F Ys) s (S .t) k)
 
   pub held-none : record { members = replicate 31 0; shares = replicate 31 0; count = 0 } ≡ heldAt 0
   unfolding heldOf
   held-none =
-      let e : [] ≡ lowest (isShareBy J S b d) s (S .t) 0 = sym (take-nil (S .t)) in
+      let e : [] ≡ lowest (isShareIn J S b F Ys) s (S .t) 0 = sym (take-nil (S .t)) in
       λ j. record { members = (filled-none 31 ∙ ap (λ (is : List ℕ). filled 31 (map (λ i. memberOf (recordAt b i)) is)) e) j; shares = (filled-none 31 ∙ ap (λ (is : List ℕ). filled 31 (map (λ i. ZOf (recordAt b i)) is)) e) j; count = length (e j) }
 
   module _ (k : ℕ) {A : GatheredShares} (e : A ≡ heldAt k) where
-    held-count : A .count ≡ length (lowest (isShareBy J S b d) s (S .t) k)
+    held-count : A .count ≡ length (lowest (isShareIn J S b F Ys) s (S .t) k)
     unfolding heldOf
     held-count = ap (λ (B : GatheredShares). B .count) e
 
-    pub held-next : S .t ≤ 31 → A .count < S .t → withShare J S b d (s + k) A ≡ heldAt (k + 1)
+    pub held-next : S .t ≤ 31 → A .count < S .t → withShare J S b F Ys (s + k) A ≡ heldAt (k + 1)
     unfolding withShare heldOf
-    held-next l h = ap (withShare J S b d (s + k)) e ∙ by-test (isShareBy J S b d (s + k)) refl
+    held-next l h = ap (withShare J S b F Ys (s + k)) e ∙ by-test (isShareIn J S b F Ys (s + k)) refl
       where
         is : List ℕ
-        is = lowest (isShareBy J S b d) s (S .t) k
+        is = lowest (isShareIn J S b F Ys) s (S .t) k
 
-        by-test : (x : Bool) → isShareBy J S b d (s + k) ≡ x
+        by-test : (x : Bool) → isShareIn J S b F Ys (s + k) ≡ x
             → pick x
             (record { members = set (heldOf b is .members) (length is) (memberOf (recordAt b (s + k))); shares = set (heldOf b is .shares) (length is) (ZOf (recordAt b (s + k))); count = length is + 1 })
             (heldOf b is)
             ≡ heldAt (k + 1)
-        by-test true p = held-more b is (s + k) (omega (arith, held-count)) ∙ ap (heldOf b) (sym (lowest-more (isShareBy J S b d) s (S .t) k p (omega (arith, held-count))))
-        by-test false p = ap (heldOf b) (sym (lowest-same (isShareBy J S b d) s (S .t) k p))
+        by-test true p = held-more b is (s + k) (omega (arith, held-count)) ∙ ap (heldOf b) (sym (lowest-more (isShareIn J S b F Ys) s (S .t) k p (omega (arith, held-count))))
+        by-test false p = ap (heldOf b) (sym (lowest-same (isShareIn J S b F Ys) s (S .t) k p))
 
     -- all n of the shares are seen, or t are found
-    module _ (n : ℕ) (all : filter (isShareBy J S b d) (upFrom s n) ≡ sharesBy J S b d) where
-      pub held-all : k ≡ n → A ≡ lowestBy J S b d
-      unfolding lowestBy
+    module _ (n : ℕ) (all : filter (isShareIn J S b F Ys) (upFrom s n) ≡ sharesIn J S b F Ys) where
+      pub held-all : k ≡ n → A ≡ lowestIn J S b F Ys
+      unfolding lowestIn
       held-all h = e ∙ ap heldAt h ∙ ap (λ (is : List ℕ). heldOf b (take (S .t) is)) all
 
-      pub held-full : (m : ℕ) → k + m ≡ n → S .t ≤ A .count → A ≡ lowestBy J S b d
-      unfolding lowestBy
+      pub held-full : (m : ℕ) → k + m ≡ n → S .t ≤ A .count → A ≡ lowestIn J S b F Ys
+      unfolding lowestIn
       held-full m h l =
-          e ∙ ap (heldOf b) (sym (lowest-full (isShareBy J S b d) s (S .t) k m (omega (arith, held-count)))) ∙ ap heldAt h
+          e ∙ ap (heldOf b) (sym (lowest-full (isShareIn J S b F Ys) s (S .t) k m (omega (arith, held-count)))) ∙ ap heldAt h
           ∙ ap (λ (is : List ℕ). heldOf b (take (S .t) is)) all

@@ -3,6 +3,8 @@ use mathlib.Core.Path.{_≡_, sym, _∙_}
 use mathlib.Core.Bool.{Bool}
 use mathlib.Core.List.{List}
 use Prim.Native.Nat.{ℕ}
+use lib.ListN.{length, take}
+use Rattle.words.specs.Choice.{pick}
 use Rattle.words.specs.Checks.{Check, Met, refusal, outcome}
 use Rattle.words.proofs.Checks.{if-met}
 use Rattle.words.proofs.Stages.{rest-outcome, stage-refused, last-kept}
@@ -16,8 +18,10 @@ use Rattle.sharing.specs.declared.SettingAnswer.{SettingAnswer}
 use Rattle.sharing.specs.declared.SettingAnswer.the-variants.{Value, Refused}
 use Rattle.sharing.proofs.Rounds.{judged-refused, judged-value, judged-kept, judged-lent}
 use Rattle.board.specs.Board.{boardChecks}
-use Rattle.verdicts.specs.Verdict.{Judges, verdictOn, verdictsOn}
-use Rattle.verdicts.specs.Draw.{countAccepted, endChecks, drawChecks, drawOf, boardDrawChecks, boardProduct, drawOn, verdictPlaces, noVerdicts, JudgementOf}
+use Rattle.verdicts.specs.Shares.{Judges, recoveredFrom}
+use Rattle.verdicts.specs.Verdict.{verdictOn, verdictsOn}
+use Rattle.verdicts.specs.Added.{addedBy}
+use Rattle.verdicts.specs.Draw.{countAccepted, endChecks, drawChecks, drawValue, drawOf, boardDrawChecks, drawOn, verdictPlaces, noVerdicts, JudgementOf}
 use Rattle.verdicts.specs.Answered.{refusedBoard, JudgementIn}
 use Rattle.verdicts.specs.declared.DealerVerdict.{DealerVerdict}
 use Rattle.verdicts.specs.declared.Judgement.{Judgement}
@@ -36,14 +40,14 @@ module _ (J : Judges) (b : List ℕ) where
   abbrev draws : Setting → List Check
   draws S = boardDrawChecks J S b
 
-  abbrev product : Setting → Element
-  product S = boardProduct J S b
+  abbrev drawn : Setting → Element
+  drawn S = drawValue J S b
 
   -- ---- over a round, by the answer r of the function that gives its setting
   module _ (R : Round) {r : SettingAnswer} (e : settingOutcomeOf r ≡ settingOutcome R) where
     pub round-judged : {k : ℕ} → r ≡ Refused k → JudgementOf J R b (refusedBoard k)
     unfolding refusedBoard drawOn
-    round-judged f = record { verdicts = judged-kept R checks verdicts e f noVerdicts; accepted = judged-kept R checks accepted e f 0; draw = judged-refused R draws product e f }
+    round-judged f = record { verdicts = judged-kept R checks verdicts e f noVerdicts; accepted = judged-kept R checks accepted e f 0; draw = judged-refused R draws drawn e f }
 
     module _ (S : Setting) (f : r ≡ Value S) where
       pub board-judged : {k : ℕ} → k ≡ refusal (checks S) → (k ≡ 0 → ⊥) → JudgementOf J R b (refusedBoard k)
@@ -52,7 +56,7 @@ module _ (J : Judges) (b : List ℕ) where
           record {
             verdicts = last-kept (checks S) h n (verdicts S) noVerdicts ∙ judged-lent R checks verdicts e f noVerdicts;
             accepted = last-kept (checks S) h n (accepted S) 0 ∙ judged-lent R checks accepted e f 0;
-            draw = stage-refused (checks S) h (drawChecks (S .t) (verdictsOn J S b)) n (product S) ∙ judged-value R draws product e f;
+            draw = stage-refused (checks S) h (drawChecks J S b) n (drawn S) ∙ judged-value R draws drawn e f;
           }
 
       pub verdicts-judged : Met (checks S) → {A : Judgement} → JudgementIn J S b A → JudgementOf J R b A
@@ -61,13 +65,17 @@ module _ (J : Judges) (b : List ℕ) where
           record {
             verdicts = I .verdicts ∙ sym (if-met (verdicts S) noVerdicts (checks S) m) ∙ judged-lent R checks verdicts e f noVerdicts;
             accepted = I .accepted ∙ sym (if-met (accepted S) 0 (checks S) m) ∙ judged-lent R checks accepted e f 0;
-            draw = I .draw ∙ rest-outcome (checks S) (drawChecks (S .t) (verdictsOn J S b)) m (product S) ∙ judged-value R draws product e f;
+            draw = I .draw ∙ rest-outcome (checks S) (drawChecks J S b) m (drawn S) ∙ judged-value R draws drawn e f;
           }
 
 -- ---- in a setting, by what all dealers give
+abbrev addedValue : Judges → Setting → List ℕ → Element
+addedValue J S b = record { 0 = recoveredFrom (S .group) b (take (S .t) (addedBy J S b)) }
+
 pub above-judged : (J : Judges) (S : Setting) (b : List ℕ) (d : ℕ) (verdicts : List DealerVerdict) (accepted : ℕ) (stuck : Bool) (product : Element)
     → DealersAbove (verdictOn J S b) (S .group .p) (S .n) d verdicts accepted stuck (product .0) → d ≡ 0
-    → (a : ElementAnswer) → elementOutcomeOf a ≡ outcome (endChecks (S .t) accepted stuck) product
+    → (a : ElementAnswer)
+    → elementOutcomeOf a ≡ outcome (endChecks (S .t) accepted stuck (length (addedBy J S b))) (pick stuck (addedValue J S b) product)
     → JudgementIn J S b (record { verdicts = verdicts; accepted = accepted; draw = a })
 unfolding drawOf
 above-judged J S b d verdicts accepted stuck product T z a e =
@@ -78,5 +86,5 @@ above-judged J S b d verdicts accepted stuck product T z a e =
     record {
       verdicts = all-verdicts w (S .group .p) (S .n) d verdicts accepted stuck (product .0) T z;
       accepted = c;
-      draw = e ∙ (λ j. outcome (endChecks (S .t) (c j) (s j)) (record { 0 = x j }));
+      draw = e ∙ (λ j. outcome (endChecks (S .t) (c j) (s j) (length (addedBy J S b))) (pick (s j) (addedValue J S b) (record { 0 = x j })));
     }

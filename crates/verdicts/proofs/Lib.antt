@@ -4,4 +4,5 @@ pub mod ShareAnswers
 pub mod Secrets
 pub mod VerdictAnswers
 pub mod Turns
+pub mod Products
 pub mod Judgements

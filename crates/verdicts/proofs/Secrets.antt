@@ -3,35 +3,44 @@
 use mathlib.Core.Path.{_≡_, refl, sym, ap, _∙_, subst}
 use mathlib.Core.Bool.{Bool, true, false, _&&_}
 use mathlib.Core.List.{List}
+use mathlib.Core.Logic.{inl}
 use Prim.Native.Nat.{ℕ, _<_, _≤_}
 use native.Mathlib.Omega.{arith}
-use borrow.Author.Tests.{lt-ltb, le-ltb, ltb-true, eq-eqb}
+use borrow.Author.Tests.{lt-ltb, le-ltb, ltb-true, le-leb, lt-leb, eq-eqb}
 use lib.ListN.{length, take, length-take}
-use lib.Dec.{ltb}
+use lib.Dec.{leb, ltb}
 use Rattle.words.specs.Choice.{pick}
-use Rattle.words.specs.Lists.{Below, map, upFrom}
-use Rattle.words.specs.Checks.{value, refused, isValue}
+use Rattle.words.specs.Lists.{Below, map, all, upFrom}
+use Rattle.words.specs.Checks.{Outcome, value, refused, isValue}
 use Rattle.words.proofs.Lists.{All-to, All-take, map-all, map-length, up-length, filled-front}
-use Rattle.words.proofs.Tests.{and-true, pick-true, pick-false}
+use Rattle.words.proofs.Tests.{true-all, and-true, pick-true, pick-false}
 use Rattle.group.specs.Power.{pow}
-use Rattle.group.specs.Element.{isExponent}
+use Rattle.group.specs.Answer.{elementOutcomeOf}
+use Rattle.group.specs.Element.{isElement, isExponent}
+use Rattle.group.specs.declared.Element.{Element}
+use Rattle.group.specs.declared.ElementAnswer.{ElementAnswer}
+use Rattle.group.specs.declared.ElementAnswer.the-variants as answer
 use Rattle.sharing.specs.Setting.{members}
 use Rattle.sharing.specs.Answer.{openingFigures, openingEquation, openingIn, isOpening, recovered}
 use Rattle.sharing.specs.Carried.{Commitments}
 use Rattle.sharing.specs.declared.Setting.{Setting}
 use Rattle.records.specs.Layout.{memberOf, uOf, ZOf, recordAt}
-use Rattle.records.proofs.Members.{members-front}
+use Rattle.records.proofs.Members.{members-front, each-members, member-exactly}
 use Rattle.dealing.specs.Dealing.{vIn, YIn, vsIn}
 use Rattle.dealing.specs.Columns.{columnsOf}
 use Rattle.dealing.specs.declared.Columns.{Columns}
-use Rattle.dealing.proofs.Judged.{accepted-passes}
+use Rattle.dealing.proofs.Judged.{dealing-exactly, accepted-passes}
+use Rattle.share.specs.Share.{openedForm, isDealer}
+use Rattle.share.specs.declared.ShareForm.{ShareForm}
 use Rattle.board.specs.Search.{filter, recordsIn}
 use Rattle.board.specs.Board.{keysIn, linesOf, openingPlace}
 use Rattle.board.proofs.Searches.{filter-up}
-use Rattle.board.proofs.Order.{reached, shapes}
-use Rattle.verdicts.specs.Verdict.{Judges, commitmentsOf, isShareBy, sharesBy, fromShares, isOpened, secretBy}
-use Rattle.verdicts.specs.Posted.{LinesOn, encryptedOf}
-use Rattle.verdicts.specs.Gathered.{heldOf, lowestBy}
+use Rattle.board.specs.Sorted.{Sorted}
+use Rattle.board.proofs.Order.{reached, shapes, sorted}
+use Rattle.verdicts.specs.Shares.{Judges, judges, isShareIn, sharesIn, fromLowest}
+use Rattle.verdicts.specs.Verdict.{commitmentsOf, encryptedOf, secretFrom, fromShares, isOpened, secretBy}
+use Rattle.verdicts.specs.Posted.{LinesOn, SharesOn}
+use Rattle.verdicts.specs.Gathered.{heldOf, lowestIn}
 use Rattle.verdicts.specs.declared.GatheredShares.{GatheredShares}
 use Rattle.verdicts.specs.declared.Secret.the-variants.{Opened, Recovered, Stuck}
 
@@ -44,30 +53,33 @@ all-taken t xs h = omega (arith, length-take t xs)
 pub full-taken : (k : ℕ) (l : List ℕ) → length (take k l) ≡ k → k ≤ length l
 full-taken k l e = omega (arith, length-take k l, e)
 
-module _ (J : Judges) {S : Setting} {b : List ℕ} {d : ℕ} (L : LinesOn S b d) where
+module _ (J : Judges) {S : Setting} {b : List ℕ} {F : ShareForm} {Ys : List ℕ} (L : SharesOn S b F Ys) where
+  abbrev shares : List ℕ
+  shares = sharesIn J S b F Ys
+
   abbrev taken : List ℕ
-  taken = take (S .t) (sharesBy J S b d)
+  taken = take (S .t) shares
 
   members-low : Below (S .group .q) (map (λ i. memberOf (recordAt b i)) taken)
-  unfolding sharesBy
+  unfolding sharesIn
   members-low =
       let form = reached S b (L .reached) .form in
-      let is = filter (isShareBy J S b d) (upFrom 0 (recordsIn b)) in
+      let is = filter (isShareIn J S b F Ys) (upFrom 0 (recordsIn b)) in
       map-all (λ i. memberOf (recordAt b i)) (λ m. m < S .group .q) (take (S .t) is)
       (All-take (λ i. memberOf (recordAt b i) < S .group .q) (S .t) is
-      (All-to is (λ i s. let z = shapes S b form i (omega (arith, s .0 .1)) .member in omega (arith, z, L .proper .n-below)) (filter-up (isShareBy J S b d) 0 (recordsIn b))))
+      (All-to is (λ i s. let z = shapes S b form i (omega (arith, s .0 .1)) .member in omega (arith, z, L .proper .n-below)) (filter-up (isShareIn J S b F Ys) 0 (recordsIn b))))
 
-  module _ {A : GatheredShares} (g : A ≡ lowestBy J S b d) where
+  module _ {A : GatheredShares} (g : A ≡ lowestIn J S b F Ys) where
     count-is : A .count ≡ length taken
-    unfolding lowestBy heldOf
+    unfolding lowestIn heldOf
     count-is = ap (λ (B : GatheredShares). B .count) g
 
     members-are : take (A .count) (A .members) ≡ map (λ i. memberOf (recordAt b i)) taken
-    unfolding lowestBy heldOf
+    unfolding lowestIn heldOf
     members-are = filled-front 31 (A .count) _ (map-length (λ i. memberOf (recordAt b i)) taken ∙ sym count-is) (ap (λ (B : GatheredShares). B .members) g)
 
     shares-are : take (A .count) (A .shares) ≡ map (λ i. ZOf (recordAt b i)) taken
-    unfolding lowestBy heldOf
+    unfolding lowestIn heldOf
     shares-are = filled-front 31 (A .count) _ (map-length (λ i. ZOf (recordAt b i)) taken ∙ sym count-is) (ap (λ (B : GatheredShares). B .shares) g)
 
     pub members-count : length (take (A .count) (A .members)) ≡ A .count
@@ -85,17 +97,16 @@ module _ (J : Judges) {S : Setting} {b : List ℕ} {d : ℕ} (L : LinesOn S b d)
     pub found-low : Below (S .group .q) (take (A .count) (A .members))
     found-low = subst (Below (S .group .q)) (sym members-are) members-low
 
-    pub found-few : A .count < S .t → Stuck ≡ fromShares J S b d
-    unfolding fromShares
-    found-few h =
-        sym (pick-true (ltb (length (sharesBy J S b d)) (S .t)) _ _ (lt-ltb _ _ (few-taken (S .t) (sharesBy J S b d) (omega (arith, count-is)))))
+    pub found-few : A .count < S .t → refused 13 ≡ fromLowest S b shares
+    unfolding fromLowest
+    found-few h = sym (pick-false (leb (S .t) (length shares)) _ _ (lt-leb _ _ (few-taken (S .t) shares (omega (arith, count-is)))))
 
     pub found-enough : S .t ≤ A .count → {v : ℕ} → v ≡ recovered (S .group) (take (A .count) (A .members)) (take (A .count) (A .shares))
-        → Recovered (record { 0 = v }) ≡ fromShares J S b d
-    unfolding fromShares
+        → value (record { 0 = v }) ≡ fromLowest S b shares
+    unfolding fromLowest
     found-enough h f =
-        (λ j. Recovered (record { 0 = (f ∙ (λ k. recovered (S .group) (members-are k) (shares-are k))) j }))
-        ∙ sym (pick-false (ltb (length (sharesBy J S b d)) (S .t)) _ _ (le-ltb _ _ (all-taken (S .t) (sharesBy J S b d) (omega (arith, count-is)))))
+        (λ j. value (record { 0 = (f ∙ (λ k. recovered (S .group) (members-are k) (shares-are k))) j }))
+        ∙ sym (pick-true (leb (S .t) (length shares)) _ _ (le-leb _ _ (all-taken (S .t) shares (omega (arith, count-is)))))
 
 -- ---- the opening
 -- for n elements its figure and its equation decide
@@ -134,6 +145,27 @@ module _ (S : Setting) (b : List ℕ) (d : ℕ) where
     unfolding encryptedOf columnsOf
     encrypted-are = members-front (YIn (linesOf b d)) (S .n) (ap (λ (x : Columns). x .encrypted) f)
 
+  pub lines-sorted : LinesOn S b d → Sorted b
+  lines-sorted L = sorted S b (reached S b (L .reached) .form)
+
+  -- the shares of his dealing: each member has an encrypted share in an accepted line
+  pub lines-shares : LinesOn S b d → {Ys : List ℕ} → Ys ≡ encryptedOf S b d → SharesOn S b (openedForm d) Ys
+  unfolding encryptedOf isDealer
+  lines-shares L {Ys} Y =
+      let posted = dealing-exactly S d (keysIn (S .n) b) (linesOf b d) .0 (L .accepted) .posted in
+      record {
+        proper = L .proper;
+        reached = L .reached;
+        kind = inl refl;
+        dealer = member-exactly (S .n) d .1 (posted .dealer);
+        size = encrypted-count Y;
+        elements =
+            ap (all (isElement (S .group))) Y
+            ∙ true-all (isElement (S .group)) (map (YIn (linesOf b d)) (members (S .n)))
+            (map-all (YIn (linesOf b d)) (λ v. isElement (S .group) v ≡ true) (members (S .n))
+            (each-members (λ i. isElement (S .group) (YIn (linesOf b d) i) ≡ true) (S .n) (λ i h l. posted .lines i h l .Y-element)));
+      }
+
   module _ (L : LinesOn S b d) (h : openingPlace b d < recordsIn b) {u : ℕ} (e : u ≡ opening) where
     told : isOpened S b d ≡ isExponent (S .group) u && isOpening S (commitmentsOf S b d) u
     unfolding isOpened
@@ -164,3 +196,15 @@ module _ (S : Setting) (b : List ℕ) (d : ℕ) where
   secret-opened J e f h =
       (λ j. Opened (record { 0 = (f ∙ ap (pow (S .group .p) (S .group .h .0)) h) j }))
       ∙ sym (pick-true (isOpened S b d) _ (fromShares J S b d) e)
+
+  -- by what recovery answers for them
+  module _ {F : ShareForm} (f : F ≡ openedForm d) {Ys : List ℕ} (Y : Ys ≡ encryptedOf S b d) (a : ElementAnswer) (e : elementOutcomeOf a ≡ fromLowest S b (sharesIn judges S b F Ys)) where
+    from-told : (o : Outcome Element) → elementOutcomeOf a ≡ o → secretFrom o ≡ fromShares judges S b d
+    unfolding fromShares
+    from-told o r = ap secretFrom (sym r ∙ e ∙ (λ j. fromLowest S b (sharesIn judges S b (f j) (Y j))))
+
+    pub from-refused : {k : ℕ} → a ≡ answer.Refused k → Stuck ≡ fromShares judges S b d
+    from-refused {k} r = from-told (refused k) (ap elementOutcomeOf r)
+
+    pub from-value : {v : Element} → a ≡ answer.Value v → Recovered v ≡ fromShares judges S b d
+    from-value {v} r = from-told (value v) (ap elementOutcomeOf r)

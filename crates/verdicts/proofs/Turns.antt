@@ -5,13 +5,14 @@ use mathlib.Core.List.{List, [], _∷_}
 use Prim.Native.Nat.{ℕ, zero, suc, _+_, _-_, _<_, _≤_}
 use native.Mathlib.Omega.{arith}
 use borrow.Author.Tests.{le-leb, lt-leb}
-use lib.ListN.{length, drop, set, replicate, length-set}
+use lib.ListN.{length, getD, drop, set, replicate, length-set}
 use lib.Seq.{drop-set-lt, getD-set-same}
 use Rattle.words.specs.Choice.{pick}
 use Rattle.words.specs.Lists.{map, upFrom}
-use Rattle.words.proofs.Lists.{drop-back, map-at, up-at}
+use Rattle.words.proofs.Lists.{drop-back, map-length, map-at, up-length, up-at}
 use Rattle.sharing.specs.Setting.{members}
-use Rattle.verdicts.specs.Draw.{countOne, countAccepted, isStuck, anyStuck, timesSecret, secretsProduct, placeFor, verdictPlaces, noVerdicts}
+use Rattle.verdicts.specs.Verdict.{isStuck}
+use Rattle.verdicts.specs.Draw.{countOne, countAccepted, anyStuck, timesSecret, secretsProduct, placeFor, verdictPlaces, noVerdicts}
 use Rattle.verdicts.specs.declared.Verdict.{Verdict}
 use Rattle.verdicts.specs.declared.Verdict.the-variants.{None, Refused, Accepted}
 use Rattle.verdicts.specs.declared.DealerVerdict.{DealerVerdict}
@@ -21,26 +22,37 @@ count-most None = omega arith
 count-most (Refused k) = omega arith
 count-most (Accepted s) = omega arith
 
--- ---- the verdicts of the dealers above d
-module _ (w : ℕ → Verdict) (n : ℕ) where
-  abbrev above : ℕ → List Verdict
-  above d = map w (upFrom (d + 1) (n - d))
+-- ---- the dealers above d
+module _ (n : ℕ) where
+  abbrev pub dealersAbove : ℕ → List ℕ
+  dealersAbove d = upFrom (d + 1) (n - d)
 
-  above-none : above n ≡ []
-  above-none = ap (λ (m : ℕ). map w (upFrom (n + 1) m)) (let z : n - n ≡ 0 = omega arith in z)
+  pub dealers-none : dealersAbove n ≡ []
+  dealers-none = let z : n - n ≡ 0 = omega arith in ap (upFrom (n + 1)) z
 
-  above-more : (d : ℕ) → 0 < d → d ≤ n → above (d - 1) ≡ w d ∷ above d
-  above-more d h l =
+  pub dealers-more : (d : ℕ) → 0 < d → d ≤ n → dealersAbove (d - 1) ≡ d ∷ dealersAbove d
+  dealers-more d h l =
       let a : d - 1 + 1 ≡ d = omega arith in
       let m : n - (d - 1) ≡ suc (n - d) = omega arith in
       let s : suc d ≡ d + 1 = omega arith in
-      (λ j. map w (upFrom (a j) (m j))) ∙ ap (λ (x : ℕ). w d ∷ map w (upFrom x (n - d))) s
+      (λ j. upFrom (a j) (m j)) ∙ ap (λ (x : ℕ). d ∷ upFrom x (n - d)) s
 
-  above-all : (d : ℕ) → d ≡ 0 → above d ≡ map w (members n)
-  above-all d e =
+  pub dealers-all : (d : ℕ) → d ≡ 0 → dealersAbove d ≡ members n
+  dealers-all d e =
       let a : d + 1 ≡ 1 = omega arith in
       let m : n - d ≡ n = omega arith in
-      λ j. map w (upFrom (a j) (m j))
+      λ j. upFrom (a j) (m j)
+
+-- their verdicts
+module _ (w : ℕ → Verdict) (n : ℕ) where
+  above-none : map w (dealersAbove n n) ≡ []
+  above-none = ap (map w) (dealers-none n)
+
+  above-more : (d : ℕ) → 0 < d → d ≤ n → map w (dealersAbove n (d - 1)) ≡ w d ∷ map w (dealersAbove n d)
+  above-more d h l = ap (map w) (dealers-more n d h l)
+
+  above-all : (d : ℕ) → d ≡ 0 → map w (dealersAbove n d) ≡ map w (members n)
+  above-all d e = ap (map w) (dealers-all n d e)
 
 -- ---- the places
 abbrev held : Verdict → DealerVerdict
@@ -60,14 +72,23 @@ module _ (w : ℕ → Verdict) (n : ℕ) where
   unfolding verdictPlaces
   places-start = behind n 1 31 (omega arith)
 
-  -- the place of the dealer d
-  place-at : (d : ℕ) → 0 < d → d ≤ n → n ≤ 31 → drop (d - 1) (verdictPlaces w n) ≡ held (w d) ∷ drop d (verdictPlaces w n)
+  places-length : length (verdictPlaces w n) ≡ 31
   unfolding verdictPlaces
-  place-at d h u v =
+  places-length = map-length (placeFor w n) (upFrom 1 31) ∙ up-length 1 31
+
+  -- the place of the dealer d
+  pub place-of : (d : ℕ) → 0 < d → d ≤ n → n ≤ 31 → getD (verdictPlaces w n) (d - 1) (held None) ≡ held (w d)
+  unfolding verdictPlaces
+  place-of d h u v =
       let e : 1 + (d - 1) ≡ d = omega arith in
-      let at = map-at (placeFor w n) (upFrom 1 31) (d - 1) 0 (held None) (omega arith) ∙ ap (placeFor w n) (up-at 1 31 (d - 1) (omega arith) ∙ e) in
-      drop-back (map (placeFor w n) (upFrom 1 31)) d (held None) h (omega arith)
-      ∙ ap (λ (x : DealerVerdict). x ∷ drop d (map (placeFor w n) (upFrom 1 31))) (at ∙ ap (λ (x : Bool). held (pick x (w d) None)) (le-leb d n u))
+      map-at (placeFor w n) (upFrom 1 31) (d - 1) 0 (held None) (omega arith)
+      ∙ ap (placeFor w n) (up-at 1 31 (d - 1) (omega arith) ∙ e)
+      ∙ ap (λ (x : Bool). held (pick x (w d) None)) (le-leb d n u)
+
+  place-at : (d : ℕ) → 0 < d → d ≤ n → n ≤ 31 → drop (d - 1) (verdictPlaces w n) ≡ held (w d) ∷ drop d (verdictPlaces w n)
+  place-at d h u v =
+      drop-back (verdictPlaces w n) d (held None) h (omega (arith, places-length))
+      ∙ ap (λ (x : DealerVerdict). x ∷ drop d (verdictPlaces w n)) (place-of d h u v)
 
   places-next : (d : ℕ) (l : List DealerVerdict) (x : DealerVerdict) → 0 < d → d ≤ n → n ≤ 31 → length l ≡ 31 → drop d l ≡ drop d (verdictPlaces w n) → x ≡ held (w d)
       → drop (d - 1) (set l (d - 1) x) ≡ drop (d - 1) (verdictPlaces w n)
@@ -82,9 +103,9 @@ pub record DealersAbove (w : ℕ → Verdict) (p n d : ℕ) (verdicts : List Dea
   pub within : d ≤ n
   pub size : length verdicts ≡ 31
   pub filled : drop d verdicts ≡ drop d (verdictPlaces w n)
-  pub count : accepted ≡ countAccepted (map w (upFrom (d + 1) (n - d)))
-  pub any : stuck ≡ anyStuck (map w (upFrom (d + 1) (n - d)))
-  pub whole : product ≡ secretsProduct p (map w (upFrom (d + 1) (n - d)))
+  pub count : accepted ≡ countAccepted (map w (dealersAbove n d))
+  pub any : stuck ≡ anyStuck (map w (dealersAbove n d))
+  pub whole : product ≡ secretsProduct p (map w (dealersAbove n d))
   pub few : accepted ≤ n - d
 
 pub above-start : (w : ℕ → Verdict) (p n : ℕ) → DealersAbove w p n n noVerdicts 0 false 1
@@ -109,7 +130,7 @@ module _ (w : ℕ → Verdict) (p n d : ℕ) (verdicts : List DealerVerdict) (ac
         within = omega (arith, T .within);
         size = length-set verdicts (d - 1) (record { verdict = v }) ∙ T .size;
         filled = places-next w n d verdicts (record { verdict = v }) h (T .within) l (T .size) (T .filled) (λ j. record { verdict = e j });
-        count = (λ j. ec j + T .count j) ∙ ap (λ (u : Verdict). countOne u + countAccepted (map w (upFrom (d + 1) (n - d)))) e ∙ ap countAccepted (sym m);
+        count = (λ j. ec j + T .count j) ∙ ap (λ (u : Verdict). countOne u + countAccepted (map w (dealersAbove n d))) e ∙ ap countAccepted (sym m);
         any = ey ∙ (λ j. pick (isStuck (e j)) true (T .any j)) ∙ ap anyStuck (sym m);
         whole = ex ∙ (λ j. timesSecret p (e j) (T .whole j)) ∙ ap (secretsProduct p) (sym m);
         few = omega (arith, ec, count-most v, T .few, T .within);

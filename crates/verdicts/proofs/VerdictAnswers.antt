@@ -24,7 +24,8 @@ use Rattle.board.specs.Board.{boardChecks, keyIn, keysIn, lineCount, linesOf}
 use Rattle.board.specs.Claims.{ExactLines}
 use Rattle.board.proofs.Order.{Reached, reached}
 use Rattle.board.proofs.LineRun.{line-record, lines-exact}
-use Rattle.verdicts.specs.Verdict.{judges, dealingAnswer, secretBy, verdictFrom, verdictOn}
+use Rattle.verdicts.specs.Shares.{judges}
+use Rattle.verdicts.specs.Verdict.{dealingAnswer, secretBy, verdictFrom, verdictOn}
 use Rattle.verdicts.specs.Posted.{LinesOn}
 use Rattle.verdicts.specs.declared.Secret.{Secret}
 use Rattle.verdicts.specs.declared.Verdict.the-variants.{None, Refused, Accepted}

@@ -1,9 +1,9 @@
 -- The count of accepted dealings, the draw value, and the board judge's answer.
 use mathlib.Core.Path.{_≡_}
-use mathlib.Core.Bool.{Bool, true, false, not}
+use mathlib.Core.Bool.{Bool, true, false}
 use mathlib.Core.List.{List, [], _∷_, _++_}
 use Prim.Native.Nat.{ℕ, _+_}
-use lib.ListN.{replicate}
+use lib.ListN.{length, take, replicate}
 use lib.Dec.{leb}
 use Rattle.words.specs.Choice.{pick}
 use Rattle.words.specs.Lists.{map, upFrom}
@@ -15,7 +15,9 @@ use Rattle.sharing.specs.Setting.{judged, judgedElse}
 use Rattle.sharing.specs.declared.Round.{Round}
 use Rattle.sharing.specs.declared.Setting.{Setting}
 use Rattle.board.specs.Board.{boardChecks}
-use Rattle.verdicts.specs.Verdict.{Judges, verdictOn, verdictsOn}
+use Rattle.verdicts.specs.Shares.{Judges, recoveredFrom}
+use Rattle.verdicts.specs.Verdict.{isStuck, verdictOn, verdictsOn}
+use Rattle.verdicts.specs.Added.{addedBy}
 use Rattle.verdicts.specs.declared.Secret.{Secret}
 use Rattle.verdicts.specs.declared.Secret.the-variants.{Opened, Recovered, Stuck}
 use Rattle.verdicts.specs.declared.Verdict.{Verdict}
@@ -33,13 +35,6 @@ countOne (Accepted s) = 1
 abbrev pub countAccepted : List Verdict → ℕ
 countAccepted [] = 0
 countAccepted (v ∷ vs) = countOne v + countAccepted vs
-
-abbrev pub isStuck : Verdict → Bool
-isStuck None = false
-isStuck (Refused k) = false
-isStuck (Accepted (Opened v)) = false
-isStuck (Accepted (Recovered v)) = false
-isStuck (Accepted Stuck) = true
 
 abbrev pub anyStuck : List Verdict → Bool
 anyStuck [] = false
@@ -61,28 +56,34 @@ abbrev pub secretsProduct : ℕ → List Verdict → ℕ
 secretsProduct p [] = 1
 secretsProduct p (v ∷ vs) = timesSecret p v (secretsProduct p vs)
 
--- ---- the draw: 14 fewer than t accepted, then 13 a stuck dealing
-abbrev pub endChecks : ℕ → ℕ → Bool → List Check
-endChecks t accepted stuck = 14 unless leb t accepted ∷ 13 unless not stuck ∷ []
+-- ---- the draw
+-- 14 fewer than t accepted, then 13 a stuck dealing where fewer than t added shares are accepted
+abbrev pub endChecks : ℕ → ℕ → Bool → ℕ → List Check
+endChecks t accepted stuck added = 14 unless leb t accepted ∷ 13 unless pick stuck (leb t added) true ∷ []
 
-abbrev pub drawChecks : ℕ → List Verdict → List Check
-drawChecks t vs = endChecks t (countAccepted vs) (anyStuck vs)
+abbrev pub drawChecks : Judges → Setting → List ℕ → List Check
+drawChecks J S b = let vs = verdictsOn J S b in endChecks (S .t) (countAccepted vs) (anyStuck vs) (length (addedBy J S b))
 
-unfoldable pub drawOf : ℕ → ℕ → List Verdict → Outcome Element
-drawOf p t vs = outcome (drawChecks t vs) (record { 0 = secretsProduct p vs })
+-- the product of the secrets or, where a dealing is stuck, what the t lowest members with accepted added shares recover
+abbrev pub drawValue : Judges → Setting → List ℕ → Element
+drawValue J S b =
+    let vs = verdictsOn J S b in
+    pick (anyStuck vs)
+    (record { 0 = recoveredFrom (S .group) b (take (S .t) (addedBy J S b)) })
+    (record { 0 = secretsProduct (S .group .p) vs })
+
+unfoldable pub drawOf : Judges → Setting → List ℕ → Outcome Element
+drawOf J S b = outcome (drawChecks J S b) (drawValue J S b)
 
 -- the draw of a board: the checks before its verdicts come first
 abbrev pub boardDrawChecks : Judges → Setting → List ℕ → List Check
-boardDrawChecks J S b = boardChecks S b ++ drawChecks (S .t) (verdictsOn J S b)
-
-abbrev pub boardProduct : Judges → Setting → List ℕ → Element
-boardProduct J S b = record { 0 = secretsProduct (S .group .p) (verdictsOn J S b) }
+boardDrawChecks J S b = boardChecks S b ++ drawChecks J S b
 
 unfoldable pub drawIn : Judges → Setting → List ℕ → Outcome Element
-drawIn J S b = outcome (boardDrawChecks J S b) (boardProduct J S b)
+drawIn J S b = outcome (boardDrawChecks J S b) (drawValue J S b)
 
 unfoldable pub drawOn : Judges → Round → List ℕ → Outcome Element
-drawOn J R b = judged R (λ S. boardDrawChecks J S b) (λ S. boardProduct J S b)
+drawOn J R b = judged R (λ S. boardDrawChecks J S b) (λ S. drawValue J S b)
 
 -- ---- the board judge's answer
 -- the places of 31 dealers, of whom the first n have a verdict

@@ -1,35 +1,26 @@
--- The verdict on each dealer. The two judges are a parameter: nothing here depends on how they work.
-use mathlib.Core.Bool.{Bool, _&&_}
+-- The verdict on each dealer, by the two judges.
+use mathlib.Core.Bool.{Bool, true, false, _&&_}
 use mathlib.Core.List.{List}
-use Prim.Native.Nat.{ℕ, _*_}
-use lib.ListN.{length, take, drop}
+use Prim.Native.Nat.{ℕ}
 use lib.Dec.{ltb, eqb}
 use Rattle.words.specs.Choice.{pick}
-use Rattle.words.specs.Lists.{map, upFrom}
+use Rattle.words.specs.Lists.{map}
 use Rattle.words.specs.Checks.{Outcome, value, refused, isValue}
 use Rattle.group.specs.Power.{pow}
 use Rattle.group.specs.declared.Element.{Element}
 use Rattle.sharing.specs.Setting.{members}
-use Rattle.sharing.specs.Answer.{openingIn, recovered}
+use Rattle.sharing.specs.Answer.{openingIn}
 use Rattle.sharing.specs.declared.Setting.{Setting}
-use Rattle.records.specs.Layout.{shareKind, dealerOf, memberOf, uOf, ZOf, recordAt}
-use Rattle.dealing.specs.Dealing.{vsIn, YIn, judgeDealingIn}
-use Rattle.share.specs.Share.{judgeShareIn}
-use Rattle.board.specs.Search.{filter, recordsIn}
-use Rattle.board.specs.Board.{keyIn, keysIn, lineCount, linesOf, openingPlace}
+use Rattle.records.specs.Layout.{uOf, recordAt}
+use Rattle.dealing.specs.Dealing.{vsIn, YIn}
+use Rattle.share.specs.Share.{openedForm}
+use Rattle.board.specs.Search.{recordsIn}
+use Rattle.board.specs.Board.{keysIn, lineCount, linesOf, openingPlace}
+use Rattle.verdicts.specs.Shares.{Judges, isShareIn, sharesIn, fromLowest}
 use Rattle.verdicts.specs.declared.Secret.{Secret}
 use Rattle.verdicts.specs.declared.Secret.the-variants.{Opened, Recovered, Stuck}
 use Rattle.verdicts.specs.declared.Verdict.{Verdict}
 use Rattle.verdicts.specs.declared.Verdict.the-variants.{None, Refused, Accepted}
-
--- the judge of dealings, of setting, dealer, keys and lines; the judge of opened shares, of setting, dealer, member, y, Y and record
-pub record Judges : Type 0 where
-  pub dealing : Setting → ℕ → List ℕ → List ℕ → Outcome (Unit {0})
-  pub share : Setting → ℕ → ℕ → ℕ → ℕ → List ℕ → Outcome Element
-
--- the judges of this repository, of the crates dealing and share
-abbrev pub judges : Judges
-judges = record { dealing = judgeDealingIn; share = judgeShareIn }
 
 -- ---- one dealer's dealing
 -- what the judge of dealings answers for his lines and the board's keys
@@ -44,29 +35,26 @@ isAccepted J S b d = eqb (lineCount b d) (S .n) && isValue (dealingAnswer J S b 
 abbrev pub commitmentsOf : Setting → List ℕ → ℕ → List ℕ
 commitmentsOf S b d = vsIn (S .n) (linesOf b d)
 
--- ---- accepted shares
--- what the judge of opened shares answers for the record i with the key of its member and the Y of that member's line
-unfoldable pub shareAnswer : Judges → Setting → List ℕ → ℕ → ℕ → Outcome Element
-shareAnswer J S b d i =
-    let m = memberOf (recordAt b i) in
-    J .share S d m (keyIn b m) (YIn (linesOf b d) m) (take 32 (drop (32 * i) b))
+-- the encrypted shares in them
+unfoldable pub encryptedOf : Setting → List ℕ → ℕ → List ℕ
+encryptedOf S b d = map (YIn (linesOf b d)) (members (S .n))
 
--- the record i is an accepted share of the dealer d
-unfoldable pub isShareBy : Judges → Setting → List ℕ → ℕ → ℕ → Bool
-isShareBy J S b d i =
-    eqb (recordAt b i .w0) shareKind && (eqb (dealerOf (recordAt b i)) d && isValue (shareAnswer J S b d i))
+-- ---- his accepted shares
+-- the record i is an opened share of the dealer d that the judge of shares accepts, with the Y of its member's line
+abbrev pub isShareBy : Judges → Setting → List ℕ → ℕ → ℕ → Bool
+isShareBy J S b d i = isShareIn J S b (openedForm d) (encryptedOf S b d) i
 
--- the records of his accepted shares, by ascending member
-unfoldable pub sharesBy : Judges → Setting → List ℕ → ℕ → List ℕ
-sharesBy J S b d = filter (isShareBy J S b d) (upFrom 0 (recordsIn b))
+abbrev pub sharesBy : Judges → Setting → List ℕ → ℕ → List ℕ
+sharesBy J S b d = sharesIn J S b (openedForm d) (encryptedOf S b d)
 
 -- ---- how the secret of an accepted dealing came
+abbrev pub secretFrom : Outcome Element → Secret
+secretFrom (value v) = Recovered v
+secretFrom (refused k) = Stuck
+
 -- from the t lowest members with accepted shares, stuck where there are fewer
 unfoldable pub fromShares : Judges → Setting → List ℕ → ℕ → Secret
-fromShares J S b d =
-    let is = sharesBy J S b d in
-    pick (ltb (length is) (S .t)) Stuck
-    (Recovered (record { 0 = recovered (S .group) (map (λ i. memberOf (recordAt b i)) (take (S .t) is)) (map (λ i. ZOf (recordAt b i)) (take (S .t) is)) }))
+fromShares J S b d = secretFrom (fromLowest S b (sharesBy J S b d))
 
 -- his opening, where there is one, is accepted for his commitments
 unfoldable pub isOpened : Setting → List ℕ → ℕ → Bool
@@ -90,6 +78,14 @@ unfoldable pub verdictOn : Judges → Setting → List ℕ → ℕ → Verdict
 verdictOn J S b d =
     pick (eqb (lineCount b d) 0) None
     (pick (eqb (lineCount b d) (S .n)) (verdictFrom (dealingAnswer J S b d) (secretBy J S b d)) (Refused 12))
+
+-- accepted and stuck
+abbrev pub isStuck : Verdict → Bool
+isStuck None = false
+isStuck (Refused k) = false
+isStuck (Accepted (Opened v)) = false
+isStuck (Accepted (Recovered v)) = false
+isStuck (Accepted Stuck) = true
 
 abbrev pub verdictsOn : Judges → Setting → List ℕ → List Verdict
 verdictsOn J S b = map (verdictOn J S b) (members (S .n))

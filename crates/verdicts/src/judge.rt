@@ -2,18 +2,22 @@
 ghost use mathlib.Core.Path.{_≡_};
 ghost use mathlib.Core.Bool.{true};
 ghost use Prim.Native.Nat.{_<_};
+ghost use lib.ListN.{length, take};
 ghost use Rattle.words.specs.Choice.{pick};
 ghost use Rattle.words.specs.Checks.{Met, outcome};
 ghost use Rattle.group.specs.Answer.{elementOutcomeOf};
 ghost use Rattle.sharing.specs.Setting.{ProperSetting};
 ghost use Rattle.board.specs.Board.{boardChecks};
-ghost use Rattle.verdicts.specs.Verdict.{judges};
-ghost use Rattle.verdicts.specs.Draw.{countOne, isStuck, secretValue, timesSecret, endChecks, JudgementOf};
+ghost use Rattle.verdicts.specs.Shares.{judges, recoveredFrom};
+ghost use Rattle.verdicts.specs.Verdict.{isStuck, verdictOn};
+ghost use Rattle.verdicts.specs.Added.{addedBy};
+ghost use Rattle.verdicts.specs.Draw.{countOne, secretValue, timesSecret, endChecks, verdictPlaces, JudgementOf};
 ghost use Rattle.verdicts.specs.Answered.{refusedBoard, JudgementIn};
 use crate::DealerVerdict;
 use crate::Judgement;
 use crate::Secret;
 use crate::Verdict;
+use crate::added::added_draw;
 use crate::verdicts::verdict;
 use board::board_keys;
 use board::board_refusal_in;
@@ -75,17 +79,28 @@ fn times_secret(gr: Group, v: Verdict, x: Element) -> Element
     }
 }
 
-// The draw by the count of accepted dealings, whether one is stuck, and the product of the secrets.
-fn draw_answer(t: u32, accepted: u32, stuck: bool, product: Element) -> ElementAnswer
-    ensures { λ r. ⌜ elementOutcomeOf r ≡ outcome (endChecks t accepted stuck) product ⌝ }
+// The draw by the verdicts, the count of accepted dealings, whether one is stuck, and the product of the secrets: where one is
+// stuck, the added shares decide.
+// Internal: callers ensure that the setting is proper, that verdicts are reached, and that these are the dealers' verdicts.
+fn draw_answer(
+    s: Setting,
+    b: &[u8],
+    verdicts: [DealerVerdict; 31],
+    accepted: u32,
+    stuck: bool,
+    product: Element,
+) -> ElementAnswer
+    requires { ⌜ (ProperSetting s) × (Met (boardChecks s (now b))) × (verdicts ≡ verdictPlaces (verdictOn judges s (now b)) (s .n)) ⌝ }
+    ensures { λ r. ⌜ elementOutcomeOf r ≡ outcome (endChecks (s .t) accepted stuck (length (addedBy judges s (now (b .entry)))))
+        (pick stuck (record { 0 = recoveredFrom (s .group) (now (b .entry)) (take (s .t) (addedBy judges s (now (b .entry)))) }) product) ⌝ }
 {
-    if accepted < t {
+    if accepted < s.t {
         return ElementAnswer::Refused(14);
     }
-    if stuck {
-        return ElementAnswer::Refused(13);
+    if !stuck {
+        return ElementAnswer::Value(product);
     }
-    ElementAnswer::Value(product)
+    added_draw(s, b, verdicts)
 }
 
 // The verdicts of all dealers, from the last to the first, and how the board ends.
@@ -116,7 +131,7 @@ pub fn all_verdicts(s: Setting, b: &[u8]) -> Judgement
     Judgement {
         verdicts,
         accepted,
-        draw: draw_answer(s.t, accepted, stuck, product),
+        draw: draw_answer(s, b, verdicts, accepted, stuck, product),
     }
 }
 
@@ -134,8 +149,8 @@ fn refused_board(k: u32) -> Judgement
     }
 }
 
-// Judges a board. Refused, with no verdict: 1 and 2 as setting_of; 3, 4, 5, 12 and 6 as board_refusal_in. After all verdicts: 14 fewer
-// than t accepted dealings; 13 a stuck dealing.
+// Judges a board. Refused, with no verdict: 1 and 2 as setting_of; 3, 4, 17, 5, 12 and 6 as board_refusal_in. After all verdicts: 14
+// fewer than t accepted dealings; 13 a stuck dealing, where fewer than t added shares are accepted.
 pub fn judge_board(rd: Round, b: &[u8]) -> Judgement
     ensures { λ r. ⌜ JudgementOf judges rd (now (b .entry)) r ⌝ }
 {

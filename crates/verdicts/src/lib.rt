@@ -1,4 +1,5 @@
 // The board judge: every dealer's verdict, the count of accepted dealings and the draw.
+mod added;
 mod judge;
 mod shares;
 mod verdicts;
@@ -31,6 +32,11 @@ pub struct GatheredShares {
     pub members: [u32; 31],
     pub shares: [u32; 31],
     pub count: usize,
+}
+
+// A product for each member, member i's at i - 1, and 0 behind them.
+pub struct MemberProducts {
+    pub of: [u32; 31],
 }
 
 // Every dealer's verdict (dealer d at d - 1, those above n None), the count of accepted dealings, and the draw: the beacon's output,

@@ -4,23 +4,25 @@ ghost use Rattle.words.specs.Checks.{Met};
 ghost use Rattle.sharing.specs.Setting.{ProperSetting};
 ghost use Rattle.dealing.specs.Columns.{columnsOf};
 ghost use Rattle.board.specs.Board.{keysIn, boardChecks, linesOf};
-ghost use Rattle.verdicts.specs.Verdict.{judges, commitmentsOf, fromShares, isOpened, secretBy, verdictOn};
-ghost use Rattle.verdicts.specs.Posted.{LinesOn, encryptedOf};
+ghost use Rattle.verdicts.specs.Shares.{judges};
+ghost use Rattle.verdicts.specs.Verdict.{commitmentsOf, encryptedOf, fromShares, isOpened, secretBy, verdictOn};
+ghost use Rattle.verdicts.specs.Posted.{LinesOn};
 use crate::Secret;
 use crate::Verdict;
-use crate::shares::lowest_shares;
+use crate::shares::from_lowest;
 use board::find_opening;
 use board::lines_of;
 use board::records;
 use dealing::Columns;
 use dealing::judge_lines;
+use group::ElementAnswer;
 use group::Exponent;
 use group::is_exponent;
 use records::record_at;
+use share::opened_form;
 use sharing::CheckAnswer;
 use sharing::Setting;
 use sharing::opens;
-use sharing::recovered_from;
 
 // The secret from the t lowest members with accepted shares, stuck where there are fewer.
 // Internal: callers ensure that verdicts are reached, that the lines of d are accepted, and that these are the encrypted shares in them.
@@ -28,14 +30,10 @@ fn from_shares(s: Setting, b: &[u8], d: u32, encrypted: &[u32]) -> Secret
     requires { ⌜ (LinesOn s (now b) d) × (now encrypted ≡ encryptedOf s (now b) d) ⌝ }
     ensures { λ r. ⌜ r ≡ fromShares judges s (now (b .entry)) d ⌝ }
 {
-    let found = lowest_shares(s, b, d, encrypted);
-    let k = found.count;
-    if k < s.t as usize {
-        return Secret::Stuck;
+    match from_lowest(s, opened_form(d), b, encrypted) {
+        ElementAnswer::Refused(_) => Secret::Stuck,
+        ElementAnswer::Value(v) => Secret::Recovered(v),
     }
-    let members = found.members;
-    let shares = found.shares;
-    Secret::Recovered(recovered_from(s.group, &members[..k], &shares[..k]))
 }
 
 // Whether the opening of the dealer d, where there is one, is right: below q, and it opens his commitments.

@@ -1,9 +1,11 @@
 //! The board: the form and order of its records, the keys, a dealer's lines, the verdicts and the draw value.
 
+mod added;
+
 use crate::answer::{require, Answer};
 use crate::dealing::judge_dealing;
 use crate::group::H;
-use crate::record::{self, has_form, Record, KEY, LINE, OPENING, SHARE, SIZE};
+use crate::record::{self, has_form, Record, ADDED, KEY, LINE, OPENING, SHARE, SIZE};
 use crate::round::{Figures, Round};
 use crate::share::judge_share;
 use crate::sharing::{at_zero, opening};
@@ -24,6 +26,12 @@ pub enum Verdict {
     None,
     Refused(u32),
     Accepted(Secret),
+}
+
+impl Verdict {
+    fn is_accepted(&self) -> bool {
+        matches!(self, Verdict::Accepted(_))
+    }
 }
 
 /// What is judged of a board: the verdict on each dealer from 1 to n, the count of accepted dealings, and the draw value.
@@ -52,7 +60,7 @@ fn is_of_table(n: u32, record: &Record) -> bool {
     let is_member = |number| (1..=n).contains(&number);
     let [kind, dealer, member, ..] = *record;
     let in_range = match kind {
-        KEY => dealer == 0 && is_member(member),
+        KEY | ADDED => dealer == 0 && is_member(member),
         OPENING => is_member(dealer) && member == 0,
         _ => is_member(dealer) && is_member(member),
     };
@@ -123,8 +131,7 @@ pub fn judge_board(figures: Figures, bytes: &[u8]) -> Answer<Judged> {
     };
     let dealers = 1..=board.round.n;
     let verdicts: Vec<Verdict> = dealers.map(|dealer| board.verdict(dealer)).collect();
-    let is_accepted = |verdict: &&Verdict| matches!(verdict, Verdict::Accepted(_));
-    let accepted = verdicts.iter().filter(is_accepted).count();
+    let accepted = verdicts.iter().filter(|v| v.is_accepted()).count();
     Ok(Judged {
         draw: board.draw(&verdicts, accepted),
         verdicts,
@@ -171,29 +178,40 @@ impl Board<'_> {
         opening(self.figures, &commitments, s).ok().map(|()| s)
     }
 
-    /// The first t accepted shares, which are those of the lowest members: these and the shares.
+    /// The first t accepted shares of a dealing, which are those of the lowest members: these and the shares.
     fn lowest_shares(&self, dealer: u32, lines: &[u8]) -> (Vec<u32>, Vec<u32>) {
-        let t = self.round.t as usize;
-        let (mut members, mut shares) = (Vec::with_capacity(t), Vec::with_capacity(t));
-        for posted in self.bytes.chunks_exact(SIZE) {
-            if members.len() == t {
-                break;
-            }
-            let [kind, by, member] = place(posted);
-            if [kind, by] != [SHARE, dealer] {
-                continue;
-            }
+        self.lowest([SHARE, dealer], |member, posted| {
             let k = member as usize - 1;
             let encrypted = record::read(&lines[SIZE * k..])[4];
-            let answer = judge_share(
+            judge_share(
                 self.figures,
                 dealer,
                 member,
                 self.keys[k],
                 encrypted,
                 posted,
-            );
-            if let Ok(share) = answer {
+            )
+        })
+    }
+
+    /// The first t records of a kind and a dealer that are accepted by a judge, which is handed the member and the record:
+    /// the members and the shares. A bad one is ignored.
+    fn lowest(
+        &self,
+        kind_and_dealer: [u32; 2],
+        judge: impl Fn(u32, &[u8]) -> Answer<u32>,
+    ) -> (Vec<u32>, Vec<u32>) {
+        let t = self.round.t as usize;
+        let (mut members, mut shares) = (Vec::with_capacity(t), Vec::with_capacity(t));
+        for posted in self.bytes.chunks_exact(SIZE) {
+            if members.len() == t {
+                break;
+            }
+            let [kind, dealer, member] = place(posted);
+            if [kind, dealer] != kind_and_dealer {
+                continue;
+            }
+            if let Ok(share) = judge(member, posted) {
                 members.push(member);
                 shares.push(share);
             }
@@ -201,14 +219,15 @@ impl Board<'_> {
         (members, shares)
     }
 
-    /// The product of the secrets of all accepted dealings: 14 fewer than t accepted; 13 a stuck one.
+    /// 14 fewer than t accepted. Where a dealing is stuck the added shares decide, and otherwise the value is the product of
+    /// the secrets of all accepted dealings.
     fn draw(&self, verdicts: &[Verdict], accepted: usize) -> Answer<u32> {
         require(accepted >= self.round.t as usize, 14)?;
         let mut draw = 1;
         for verdict in verdicts {
             match *verdict {
                 Verdict::None | Verdict::Refused(_) => {}
-                Verdict::Accepted(Secret::Stuck) => return Err(13),
+                Verdict::Accepted(Secret::Stuck) => return self.draw_of_added(verdicts),
                 Verdict::Accepted(Secret::Opened(secret) | Secret::Recovered(secret)) => {
                     draw = self.round.group.product(draw, secret);
                 }
@@ -389,7 +408,7 @@ mod tests {
             assert_eq!(refusal(&records), Some(5));
             records[k][7] = 1;
             assert_eq!(refusal(&records), Some(17));
-            records[k][0] = 5;
+            records[k][0] = 6;
             assert_eq!(refusal(&records), Some(4));
         }
     }

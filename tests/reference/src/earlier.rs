@@ -1,8 +1,8 @@
-//! The cases that were there before rounds had a first round under the new rule, and which of them are answered otherwise
-//! now. Their answers of then are in tests/earlier; those of the cases that were there before records had a round's number
-//! are from before that.
+//! The cases that were there before shares could be added, and which of them are answered otherwise now. Their answers of then
+//! are in tests/earlier; those of the cases that were there before records had a round's number, or before rounds had a first
+//! round under the new rule, are from before that.
 
-use crate::record::{self, Record, KEY, LINE, OPENING, SIZE};
+use crate::record::{self, Record, ADDED, KEY, LINE, OPENING, SIZE};
 use crate::vectors::cases::{read, Case};
 use crate::vectors::Vectors;
 use std::error::Error;
@@ -24,11 +24,23 @@ fn of_another_round(case: &Case, bytes: &[u8]) -> Option<(usize, Record)> {
     places.find(|(_, record)| record[7] != case.round)
 }
 
-/// What is at fault in a case: a word that the form wanted to be 0 then, and that is the number of the round or of the first
-/// round under the new rule now.
+/// What is at fault in a case: a word that the form wanted to be 0 then, or a kind that was none.
 fn fault(case: &Case) -> Option<String> {
+    of_number(case).or_else(|| of_kind(case))
+}
+
+/// A record of kind 5 without a dealer, which is an added share now.
+fn of_kind(case: &Case) -> Option<String> {
+    let board = matches!(case.operation, 11..=13).then(|| case.board())?;
+    let mut records = (1..).zip(board.chunks_exact(SIZE).map(record::read));
+    let (k, _) = records.find(|(_, record)| record[..2] == [ADDED, 0])?;
+    Some(format!("record {k} is of kind 5: an added share"))
+}
+
+/// A word that had to be 0 then, and that is the number of the round or of the first round under the new rule now.
+fn of_number(case: &Case) -> Option<String> {
     match case.operation {
-        // None of the cases of then has a first round.
+        // None of the cases from before sets had a first round has one.
         _ if case.first != 0 => None,
         8 => {
             let keys = 4 * case.arguments[4] as usize;
@@ -101,6 +113,15 @@ mod tests {
         changed(vectors, vectors.stdin.len(), &earlier).ok()
     }
 
+    /// The answers to all cases, with another one to that at a place.
+    fn answers(cases: &[Case], place: usize, other: &str) -> String {
+        let answer = |case: &Case| format!("{} {}\n{}", case.name, case.answer, case.text);
+        let mut lines: Vec<String> = cases.iter().map(answer).collect();
+        assert_eq!(lines.concat(), once().stdout);
+        lines[place] = other.to_string();
+        lines.concat()
+    }
+
     #[test]
     fn the_same_answers() {
         let vectors = once();
@@ -126,17 +147,31 @@ mod tests {
             case.operation == 13 && of_set(case).is_some_and(|fault| fault.contains("word 5"))
         };
         let place = cases.iter().position(is_new).unwrap();
-        let mut lines: Vec<String> = cases
-            .iter()
-            .map(|case| format!("{} {}\n{}", case.name, case.answer, case.text))
-            .collect();
-        assert_eq!(lines.concat(), vectors.stdout);
-        lines[place] = "text 10\nrefused 4\n".to_string();
-        let text = changed(vectors, vectors.stdin.len(), &lines.concat()).unwrap();
+        let before = answers(&cases, place, "text 10\nrefused 4\n");
+        let text = changed(vectors, vectors.stdin.len(), &before).unwrap();
         let (number, answer) = (place + 1, answer(&cases[place]));
         let fault = "word 5 of the set is 268435456: the first round under the new rule";
         let expected = format!("{number} | text | {fault} | 10 / refused 4 | {answer}\n");
         assert_eq!(text, expected);
+    }
+
+    /// The first board with an added share, which was refused by 4.
+    #[test]
+    fn an_answer_that_the_kind_explains() {
+        let vectors = once();
+        let cases = read(&vectors.stdin, &vectors.stdout).unwrap();
+        let place = cases.iter().position(|case| {
+            let has_kind = of_number(case).is_none() && of_kind(case).is_some();
+            has_kind && case.text == "refused 5\n"
+        });
+        let place = place.unwrap();
+        let fault = of_kind(&cases[place]).unwrap();
+        let before = answers(&cases, place, "text 10\nrefused 4\n");
+        let text = changed(vectors, vectors.stdin.len(), &before).unwrap();
+        let number = place + 1;
+        let expected = format!("{number} | text | {fault} | 10 / refused 4 | 10 / refused 5\n");
+        assert_eq!(text, expected);
+        assert_eq!(fault, "record 3 is of kind 5: an added share");
     }
 
     #[test]

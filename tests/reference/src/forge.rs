@@ -6,8 +6,9 @@ use crate::draw::{set_record, SET_FILE};
 use crate::group::G;
 use crate::modular::value_at;
 use crate::posting::Members;
-use crate::record::{self, Record, SHARE};
+use crate::record::{self, Record};
 use crate::round::FOUR;
+use crate::share::added::judge_added;
 use crate::share::judge_share;
 
 /// The secret keys, the polynomials of the first two dealers and the nonces of the first, for both pairs of boards.
@@ -80,15 +81,13 @@ fn uncarried_lines(members: &Members) -> Vec<Record> {
 }
 
 /// A share of a member who claims 4 times his S: he tries challenges and responses until one pair is accepted.
-fn forged_share(members: &Members, line: &Record) -> Record {
-    let [_, dealer, member, _, encrypted, ..] = *line;
-    let opened = members.round.group.product(members.share(line, 5)[3], G);
-    let key = members.keys[member as usize - 1];
+fn forged(members: &Members, honest: &Record, is_accepted: impl Fn(&[u8]) -> bool) -> Record {
+    let [kind, dealer, member, opened, ..] = *honest;
+    let claimed = members.round.group.product(opened, G);
     for c in 0..11 {
         for r in 0..11 {
-            let share = [SHARE, dealer, member, opened, c, r, 0, FOUR.round];
-            let bytes = record::bytes([share]);
-            if judge_share(FOUR, dealer, member, key, encrypted, &bytes).is_ok() {
+            let share = [kind, dealer, member, claimed, c, r, 0, FOUR.round];
+            if is_accepted(&record::bytes([share])) {
                 return share;
             }
         }
@@ -96,25 +95,51 @@ fn forged_share(members: &Members, line: &Record) -> Record {
     unreachable!("about one in 11 is accepted")
 }
 
+fn forged_share(members: &Members, line: &Record) -> Record {
+    let [_, dealer, member, _, encrypted, ..] = *line;
+    let key = members.keys[member as usize - 1];
+    forged(members, &members.share(line, 5), |bytes| {
+        judge_share(FOUR, dealer, member, key, encrypted, bytes).is_ok()
+    })
+}
+
+/// The added shares of members 1 and 2, and one that member 1 has forged.
+fn added_shares(members: &Members, parts: &Parts) -> [Record; 3] {
+    let lines = [&parts.first[..], &parts.second].concat();
+    let products = members.products(&lines);
+    let [one, two] = [1, 2].map(|i| members.added(i, products[i as usize - 1], 5));
+    let forged = forged(members, &one, |bytes| {
+        judge_added(FOUR, 1, members.keys[0], products[0], bytes).is_ok()
+    });
+    [one, two, forged]
+}
+
+/// The names of the boards' files and of their definitions.
+const NAMES: [(&str, &str); 7] = [
+    ("opened.bin", "openedBoard"),
+    ("silent.bin", "silentBoard"),
+    ("forged.bin", "forgedBoard"),
+    ("uncarried-low.bin", "uncarriedLow"),
+    ("uncarried-high.bin", "uncarriedHigh"),
+    ("added.bin", "addedBoard"),
+    ("forged-added.bin", "forgedAdded"),
+];
+
 /// Three boards with dealer 1's polynomial: he has opened; he is silent, and members 1 and 2 open their shares of his
 /// dealing; the same with member 1's share forged. Two with his dealing that no polynomial carries: members 1 and 2
-/// open their shares of it, or 1 and 3, all of them honestly. Dealer 2 has opened on each.
-fn boards(members: &Members, parts: &Parts) -> [Board; 5] {
+/// open their shares of it, or 1 and 3, all of them honestly. Two with his polynomial again, on which he is silent and no
+/// member opens a share of it: members 1 and 2 post added shares, both honest ones, or member 1 a forged one. Dealer 2 has
+/// opened on each.
+fn boards(members: &Members, parts: &Parts) -> [Board; 7] {
     let openings = [(1, FIRST), (2, SECOND)].map(|(dealer, f)| members.opening(dealer, f[0]));
     let shared = |one, other| vec![openings[1], one, other];
     let [one, two] = [0, 1].map(|k| members.share(&parts.first[k], 5));
     let forged = forged_share(members, &parts.first[0]);
     let [low, middle, high] = [0, 1, 2].map(|k| members.share(&parts.uncarried[k], 5));
-    let names = [
-        ("opened.bin", "openedBoard"),
-        ("silent.bin", "silentBoard"),
-        ("forged.bin", "forgedBoard"),
-        ("uncarried-low.bin", "uncarriedLow"),
-        ("uncarried-high.bin", "uncarriedHigh"),
-    ];
+    let [added, other, forged_added] = added_shares(members, parts);
     let board = |k: usize, is_carried, behind| Board {
-        file: names[k].0,
-        definition: names[k].1,
+        file: NAMES[k].0,
+        definition: NAMES[k].1,
         is_carried,
         behind,
     };
@@ -124,23 +149,26 @@ fn boards(members: &Members, parts: &Parts) -> [Board; 5] {
         board(2, true, shared(forged, two)),
         board(3, false, shared(low, middle)),
         board(4, false, shared(low, high)),
+        board(5, true, shared(added, other)),
+        board(6, true, shared(forged_added, other)),
     ]
 }
 
 /// The boards, and what they are made of.
-pub fn made() -> (Parts, [Board; 5]) {
+pub fn made() -> (Parts, [Board; 7]) {
     let members = members();
     let parts = Parts::new(&members);
     let boards = boards(&members, &parts);
     (parts, boards)
 }
 
-/// The names and bytes of the files: the set, and the boards.
-pub fn files() -> [(&'static str, Vec<u8>); 6] {
+/// The names and bytes of the files: the set, and the boards. Those with added shares come last.
+pub fn files() -> [(&'static str, Vec<u8>); 8] {
     let (parts, boards) = made();
-    let [opened, silent, forged, low, high] = boards.map(|b| (b.file, parts.bytes(&b)));
+    let [opened, silent, forged, low, high, added, forged_added] =
+        boards.map(|b| (b.file, parts.bytes(&b)));
     let set = (SET_FILE, record::bytes([set_record(FOUR)]));
-    [set, opened, silent, forged, low, high]
+    [set, opened, silent, forged, low, high, added, forged_added]
 }
 
 #[cfg(test)]
@@ -148,7 +176,7 @@ mod tests {
     use super::*;
     use crate::board::{judge_board, Secret, Verdict};
     use crate::group::H;
-    use crate::record::LINE;
+    use crate::record::{ADDED, LINE, SHARE};
 
     fn carried() -> [Vec<u8>; 3] {
         let [_, (_, opened), (_, silent), (_, forged), ..] = files();
@@ -156,8 +184,13 @@ mod tests {
     }
 
     fn uncarried() -> [Vec<u8>; 2] {
-        let [.., (_, low), (_, high)] = files();
+        let [_, _, _, _, (_, low), (_, high), ..] = files();
         [low, high]
+    }
+
+    fn added() -> [Vec<u8>; 2] {
+        let [.., (_, added), (_, forged)] = files();
+        [added, forged]
     }
 
     /// The secrets of dealers 1 and 2, and the draw value.
@@ -176,9 +209,13 @@ mod tests {
     #[test]
     fn no_challenge_is_0() {
         for (name, bytes) in files() {
-            let records = bytes.chunks_exact(32).map(record::read);
-            let lines = records.filter(|record| record[0] == LINE);
-            assert!(lines.map(|line| line[6]).all(|c| c != 0), "{name}");
+            for record in bytes.chunks_exact(32).map(record::read) {
+                match record[0] {
+                    LINE => assert_ne!(record[6], 0, "{name}"),
+                    SHARE | ADDED => assert_ne!(record[4], 0, "{name}"),
+                    _ => {}
+                }
+            }
         }
     }
 
@@ -242,5 +279,39 @@ mod tests {
         let (secrets_of_forged, other) = secrets(&forged);
         assert_eq!(secrets_of_forged[1], second);
         assert_ne!(draw, other);
+    }
+
+    /// Dealer 1 is stuck on both. Honest added shares give what he and dealer 2 would have opened, and a forged one does not.
+    #[test]
+    fn added_shares_give_the_draw_value_and_a_forged_one_changes_it() {
+        let [honest, forged] = added();
+        let changed = honest
+            .chunks(32)
+            .zip(forged.chunks(32))
+            .filter(|(a, b)| a != b);
+        assert_eq!(changed.count(), 1);
+        let second = Secret::Opened(members().round.group.power(H, SECOND[0]));
+        let [opened, ..] = carried();
+        let (_, draw) = secrets(&opened);
+        assert_eq!(secrets(&honest), ([Secret::Stuck, second], draw));
+        let (secrets_of_forged, other) = secrets(&forged);
+        assert_eq!(secrets_of_forged, [Secret::Stuck, second]);
+        assert_ne!(draw, other);
+    }
+
+    /// They are h to the value of the sum of both polynomials, which the products of v are g to.
+    #[test]
+    fn added_shares_are_true_to_the_sum() {
+        let group = members().round.group;
+        let sum = [0, 1].map(|k| (FIRST[k] + SECOND[k]) % 11);
+        let [honest, _] = added();
+        let records: Vec<Record> = honest.chunks_exact(32).map(record::read).collect();
+        for (k, value) in values(&sum).into_iter().enumerate() {
+            let product = group.product(records[4 + k][3], records[8 + k][3]);
+            assert_eq!(product, group.power(G, value));
+        }
+        let shares = records[13..].iter().map(|share| share[3]);
+        let expected = values(&sum).map(|value| group.power(H, value));
+        assert!(shares.eq(expected[..2].iter().copied()));
     }
 }

@@ -41,7 +41,7 @@ type Done = Result<(), Box<dyn Error>>;
 
 const USAGE: &str =
     "usage: reference vectors DIR | forge DIR | example DIR | draw DIR | largest | digest FILE
-       reference rounds DIR | board GROUP N T ROUND FIRST opened|recovered DIR | case FILE
+       reference rounds DIR | board GROUP N T ROUND FIRST opened|recovered|added DIR | case FILE
        reference repeat OPERATION COUNT DIR | replay FILE | earlier LENGTH FILE";
 
 /// The primes p and q of group 3: the largest below 2^32.
@@ -80,6 +80,12 @@ fn figures(words: [&str; 5]) -> Result<Figures, ParseIntError> {
     })
 }
 
+/// Writes the files of a round whose draw value comes from a source to a folder.
+fn write_board(figures: Figures, source: &str, folder: &str) -> Done {
+    let source = bench::Source::named(source).ok_or("there is no such source")?;
+    write_files(folder, &bench::round(figures, source))
+}
+
 fn run(words: &[String]) -> Done {
     let words: Vec<&str> = words.iter().map(String::as_str).collect();
     match words[..] {
@@ -92,8 +98,7 @@ fn run(words: &[String]) -> Done {
         ["draw", folder] => print!("{}", draw::text_of(Path::new(folder))),
         ["rounds", folder] => println!("{}", rounds::write(Path::new(folder))?),
         ["board", number, n, t, round, first, source, folder] => {
-            let figures = figures([number, n, t, round, first])?;
-            write_files(folder, &bench::round(figures, source == "opened"))?;
+            write_board(figures([number, n, t, round, first])?, source, folder)?;
         }
         ["case", file] => io::stdout().write_all(&bench::case(&fs::read(file)?))?,
         ["repeat", operation, count, folder] => {

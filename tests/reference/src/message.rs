@@ -5,8 +5,11 @@ use crate::round::Round;
 use crate::sha256::sha256;
 
 const DEALING: u8 = 0x44;
-const SHARE: u8 = 0x53;
 const COEFFICIENT: u8 = 0x50;
+
+/// The first byte of what is hashed for an opened share, and for an added one.
+pub const OPENED: u8 = 0x53;
+pub const ADDED: u8 = 0x41;
 
 /// The exponent that a message gives in its round.
 fn exponent(round: &Round, message: &[u8]) -> u32 {
@@ -60,17 +63,23 @@ pub fn dealing_challenge(
     exponent(round, &dealing_message(round, dealer, dealt, announced))
 }
 
-/// What is hashed for an opened share: the member, y, Y, S, a1 and a2.
-pub fn share_message(round: &Round, dealer: u32, member: u32, words: &[u32; 5]) -> Vec<u8> {
-    let mut message = head(SHARE, round, dealer, 1 + 20);
+/// What is hashed for a share, opened or added: the member, y, Y, S, a1 and a2. An added one has dealer 0.
+pub fn share_message(
+    tag: u8,
+    round: &Round,
+    dealer: u32,
+    member: u32,
+    words: &[u32; 5],
+) -> Vec<u8> {
+    let mut message = head(tag, round, dealer, 1 + 20);
     message.push(member as u8);
     extend(&mut message, words);
     message
 }
 
-/// The challenge of an opened share.
-pub fn share_challenge(round: &Round, dealer: u32, member: u32, words: &[u32; 5]) -> u32 {
-    exponent(round, &share_message(round, dealer, member, words))
+/// The challenge of a share.
+pub fn share_challenge(tag: u8, round: &Round, dealer: u32, member: u32, words: &[u32; 5]) -> u32 {
+    exponent(round, &share_message(tag, round, dealer, member, words))
 }
 
 /// What is hashed for the first coefficient, from v and Y of each line, and where its place stands.
@@ -115,7 +124,7 @@ mod tests {
         let announced: Vec<[u32; 2]> = (1..=n).map(|i| [1000 + i, 70_000 + i]).collect();
         [
             dealing_message(&round, DEALER, &dealt, &announced),
-            share_message(&round, DEALER, MEMBER, &WORDS),
+            share_message(OPENED, &round, DEALER, MEMBER, &WORDS),
             first_coefficient(&round, DEALER, &dealt).0,
         ]
     }
@@ -142,13 +151,33 @@ mod tests {
         }
     }
 
+    /// An added share's message is an opened one's of dealer 0, but for the first byte.
+    #[test]
+    fn an_added_share() {
+        for number in [0, 1, 0x0102_0304, u32::MAX] {
+            let round = round(4, 2, number);
+            let [opened, added] =
+                [OPENED, ADDED].map(|tag| share_message(tag, &round, 0, MEMBER, &WORDS));
+            assert_eq!((opened[0], added[0]), (0x53, 0x41));
+            assert_eq!(opened[1..], added[1..]);
+        }
+        let added = share_message(ADDED, &round(4, 2, 0x0102_0304), 0, MEMBER, &[1; 5]);
+        assert_eq!(added[..10], [0x41, 3, 4, 2, 1, 2, 3, 4, 0, 2]);
+        assert_eq!(added[10..], [0, 0, 0, 1].repeat(5));
+        let added = share_message(ADDED, &round(4, 2, 0), 0, MEMBER, &[1; 5]);
+        assert_eq!(added[..6], [0x41, 3, 4, 2, 0, 2]);
+    }
+
     /// As `sha256sum` has their digests.
     #[test]
     fn exponents_by_another_program() {
         let numbered = round(4, 2, 0x0102_0304);
-        let of_share = |round: &Round| share_challenge(round, DEALER, MEMBER, &WORDS);
+        let of_share = |round: &Round| share_challenge(OPENED, round, DEALER, MEMBER, &WORDS);
         assert_eq!(of_share(&numbered), 508_200_328);
         assert_eq!(of_share(&round(4, 2, 0)), 1_418_902_816);
+        let of_added = |round: &Round| share_challenge(ADDED, round, 0, MEMBER, &WORDS);
+        assert_eq!(of_added(&numbered), 845_876_573);
+        assert_eq!(of_added(&round(4, 2, 0)), 737_644_794);
         let dealt = [[1, 2], [3, 4], [5, 6], [7, 8]];
         let polynomial = check_polynomial(&numbered, DEALER, &dealt);
         assert_eq!(polynomial, [1_778_503_140, 1_645_183_574]);
@@ -157,22 +186,28 @@ mod tests {
         assert_eq!(challenge, 858_714_260);
     }
 
-    /// The exponents of the same messages in a round under the new rule: a share's, two coefficients and a dealing's. As
+    /// The exponents of the same messages in a round under the new rule: both shares', two coefficients and a dealing's. As
     /// `sha256sum` has their digests, and `bc` the remainders of these.
     #[test]
     fn whole_exponents_by_another_program() {
         let dealt = [[1, 2], [3, 4], [5, 6], [7, 8]];
-        for (number, expected) in [
-            (1, [10, 8, 2, 1]),
-            (2, [436, 723, 564, 509]),
-            (3, [1_794_559_105, 831_746_684, 871_252_326, 1_608_404_453]),
+        for (number, of_added, expected) in [
+            (1, 8, [10, 8, 2, 1]),
+            (2, 298, [436, 723, 564, 509]),
+            (
+                3,
+                1_368_401_224,
+                [1_794_559_105, 831_746_684, 871_252_326, 1_608_404_453],
+            ),
         ] {
             let whole = |n, t| {
                 let figures = Figures::of(number, n, t).with_round(0x0102_0304);
                 figures.with_first(0x0102_0304).round().unwrap()
             };
             let (four, two) = (whole(4, 2), whole(2, 1));
-            let share = share_challenge(&four, DEALER, MEMBER, &WORDS);
+            let share = share_challenge(OPENED, &four, DEALER, MEMBER, &WORDS);
+            let added = share_challenge(ADDED, &four, 0, MEMBER, &WORDS);
+            assert_eq!(added, of_added);
             let polynomial = check_polynomial(&four, DEALER, &dealt);
             let challenge = dealing_challenge(&two, 2, &dealt[..2], &dealt[2..]);
             assert_eq!([share, polynomial[0], polynomial[1], challenge], expected);
@@ -184,7 +219,7 @@ mod tests {
     fn the_first_round_has_no_bytes() {
         let [none, same] = [0, 7].map(|first| {
             let figures = Figures::of(3, 4, 2).with_round(7).with_first(first);
-            share_message(&figures.round().unwrap(), DEALER, MEMBER, &WORDS)
+            share_message(OPENED, &figures.round().unwrap(), DEALER, MEMBER, &WORDS)
         });
         assert_eq!(none, same);
     }
@@ -194,7 +229,7 @@ mod tests {
     fn another_round_has_another_challenge() {
         let challenge = |number| {
             let round = Figures { number: 3, ..FOUR }.with_round(number).round();
-            share_challenge(&round.unwrap(), DEALER, MEMBER, &WORDS)
+            share_challenge(OPENED, &round.unwrap(), DEALER, MEMBER, &WORDS)
         };
         let numbers = [0, 1, 2, 256, 0x0001_0000, 0x0100_0000, u32::MAX];
         let mut challenges = numbers.map(challenge).to_vec();

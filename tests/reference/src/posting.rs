@@ -4,6 +4,7 @@ use crate::dealing::deal;
 use crate::group::H;
 use crate::record::{self, Record, KEY, OPENING, SIZE};
 use crate::round::{Figures, Round};
+use crate::share::added::write_added;
 use crate::share::write_share;
 
 /// The members of a round with their keys.
@@ -62,6 +63,25 @@ impl Members {
         );
         written.expect("proper figures");
         record::read(&bytes)
+    }
+
+    /// The added share of a member, from the product of his Y.
+    pub fn added(&self, member: u32, encrypted: u32, nonce: u32) -> Record {
+        let x = self.secret_keys[member as usize - 1];
+        let mut bytes = [0; SIZE];
+        let written = write_added(self.figures, member, encrypted, x, nonce, &mut bytes);
+        written.expect("proper figures");
+        record::read(&bytes)
+    }
+
+    /// The product of Y of each member over dealings, whose lines these are.
+    pub fn products(&self, lines: &[Record]) -> Vec<u32> {
+        let mut products = vec![1; self.keys.len()];
+        for [_, _, member, _, encrypted, ..] in lines {
+            let product = &mut products[*member as usize - 1];
+            *product = self.round.group.product(*product, *encrypted);
+        }
+        products
     }
 
     pub fn opening(&self, dealer: u32, s: u32) -> Record {

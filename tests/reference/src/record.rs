@@ -9,6 +9,7 @@ pub const KEY: u32 = 1;
 pub const LINE: u32 = 2;
 pub const OPENING: u32 = 3;
 pub const SHARE: u32 = 4;
+pub const ADDED: u32 = 5;
 
 /// The record that 32 bytes hold.
 pub fn read(bytes: &[u8]) -> Record {
@@ -36,7 +37,7 @@ pub fn bytes(records: impl IntoIterator<Item = Record>) -> Vec<u8> {
 pub fn has_form(record: &Record) -> bool {
     let named = match record[0] {
         KEY | OPENING => 4,
-        SHARE => 6,
+        SHARE | ADDED => 6,
         LINE => 7,
         _ => return false,
     };
@@ -58,7 +59,7 @@ mod tests {
 
     #[test]
     fn words_that_a_kind_does_not_name() {
-        for (kind, named) in [(1, 4), (2, 7), (3, 4), (4, 6)] {
+        for (kind, named) in [(1, 4), (2, 7), (3, 4), (4, 6), (5, 6)] {
             for k in 0..8 {
                 let mut record = [kind, 0, 0, 0, 0, 0, 0, 0];
                 assert!(has_form(&record));
@@ -68,7 +69,7 @@ mod tests {
                 }
             }
         }
-        for kind in [0, 5, 9, u32::MAX] {
+        for kind in [0, 6, 9, u32::MAX] {
             assert!(!has_form(&[kind, 0, 0, 0, 0, 0, 0, 0]));
         }
     }

@@ -12,6 +12,7 @@ use crate::plots::pick_plots;
 use crate::record::{self, SIZE};
 use crate::round::Figures;
 use crate::sha256::{digest, sha256};
+use crate::share::added::{judge_added, write_added};
 use crate::share::{judge_share, write_share};
 use crate::sharing::{degree_check, opening, recovery};
 use crate::vectors::splices::applied;
@@ -100,6 +101,8 @@ fn run(case: &Case, base: &[u8], out: &mut impl Write) -> Done {
         17 => run_judge_chain(case, base, out),
         18 => run_extend_chain(case, base, out),
         19 => print_length(out, b"first ", case.arguments[0] as usize),
+        20 => run_write_added(case, out),
+        21 => run_judge_added(case, out),
         _ => Err("no case".into()),
     }
 }
@@ -288,6 +291,30 @@ fn run_judge_share(case: &Case, out: &mut impl Write) -> Done {
     print_value(out, b"judge_share ", answer)
 }
 
+fn run_write_added(case: &Case, out: &mut impl Write) -> Done {
+    let [_, _, _, _, member, size] = case.arguments;
+    let [encrypted, secret_key, nonce] = words(&mut &case.payload[..])?;
+    let mut buffer = part(&mut &case.payload[..], size as usize)?.to_vec();
+    let answer = write_added(
+        figures(case),
+        member,
+        encrypted,
+        secret_key,
+        nonce,
+        &mut buffer,
+    );
+    print_written(out, b"write_added ", answer, &buffer)
+}
+
+fn run_judge_added(case: &Case, out: &mut impl Write) -> Done {
+    let [_, _, _, _, member, size] = case.arguments;
+    let mut rest = case.payload;
+    let [key, encrypted] = words(&mut rest)?;
+    let bytes = part(&mut rest, size as usize)?;
+    let answer = judge_added(figures(case), member, key, encrypted, bytes);
+    print_value(out, b"judge_added ", answer)
+}
+
 /// What changes make of the base's first bytes, so many as the fifth argument says.
 fn changed(case: &Case, base: &[u8], changes: &[u8]) -> Read<Vec<u8>> {
     let taken = base.get(..case.arguments[4] as usize).ok_or("no case")?;
@@ -352,7 +379,7 @@ mod tests {
 
     #[test]
     fn what_is_no_case() {
-        let unknown = record::bytes([[20, 0, 0, 0, 0, 0, 0, 0]]);
+        let unknown = record::bytes([[22, 0, 0, 0, 0, 0, 0, 0]]);
         let cut = record::bytes([[1, 0, 0, 0, 0, 0, 0, 1]]);
         let without_payload = record::bytes([[6, 1, 0, 0, 0, 0, 0, 0]]);
         let without_base = record::bytes([[17, 0, 0, 0, 0, 64, 0, 0]]);

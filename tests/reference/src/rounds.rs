@@ -1,5 +1,6 @@
 //! Rounds that `draw` is run on: the files of each in a folder of its own, and the text that it has to print.
 
+mod added;
 mod crossed;
 mod firsts;
 mod lengths;
@@ -103,6 +104,7 @@ fn all() -> Vec<Case> {
     numbered::add(&mut cases);
     firsts::add(&mut cases);
     crossed::add(&mut cases);
+    added::add(&mut cases);
     cases.0
 }
 
@@ -137,5 +139,15 @@ mod tests {
             assert!(ends(&format!("refused {number}\n")), "{number}");
         }
         assert!(ends("draw 13\n"));
+    }
+
+    /// Some text has a stuck dealing above a draw value.
+    #[test]
+    fn an_ending_by_added_shares() {
+        let texts: Vec<String> = all().iter().map(Case::text).collect();
+        let is_one = |text: &&String| text.contains(" stuck\n") && text.contains("\ndraw ");
+        assert!(texts.iter().filter(is_one).count() >= 10);
+        let is_13 = |text: &String| text.contains(" stuck\n") && text.ends_with("\nrefused 13\n");
+        assert!(texts.iter().any(is_13));
     }
 }

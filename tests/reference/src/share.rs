@@ -1,12 +1,93 @@
-//! Opened shares: their writing and their judging.
+//! Shares: their writing and their judging. An opened share is of one dealing. An added share, which has a file of its own,
+//! is of the product of all accepted ones.
+
+pub mod added;
 
 use crate::answer::{require, Answer};
 use crate::equality::{announced, response};
 use crate::group::H;
-use crate::message::share_challenge;
+use crate::message::{self, share_challenge};
 use crate::modular::inverse;
 use crate::record::{self, has_form, SHARE, SIZE};
-use crate::round::Figures;
+use crate::round::{Figures, Round};
+
+/// What tells the kinds of shares apart: the first byte of what is hashed, the record's kind and its dealer.
+struct Kind {
+    tag: u8,
+    number: u32,
+    dealer: u32,
+}
+
+impl Kind {
+    fn opened(dealer: u32) -> Kind {
+        Kind {
+            tag: message::OPENED,
+            number: SHARE,
+            dealer,
+        }
+    }
+}
+
+/// Writes a share of a member from Y, the secret key and the nonce: 3 other than 32 bytes; 6; 7.
+fn write(
+    round: &Round,
+    kind: &Kind,
+    member: u32,
+    encrypted: u32,
+    secret_key: u32,
+    nonce: u32,
+    out: &mut [u8],
+) -> Answer<()> {
+    let group = &round.group;
+    let Kind {
+        tag,
+        number,
+        dealer,
+    } = *kind;
+    require(out.len() == SIZE, 3)?;
+    require(group.is_element(encrypted), 6)?;
+    require((1..group.q).contains(&secret_key) && nonce < group.q, 7)?;
+    let key = group.power(H, secret_key);
+    let opened = group.power(encrypted, inverse(secret_key, group.q));
+    let [a1, a2] = [H, opened].map(|base| group.power(base, nonce));
+    let words = [key, encrypted, opened, a1, a2];
+    let c = share_challenge(tag, round, dealer, member, &words);
+    let r = response(group, nonce, c, secret_key);
+    record::write([number, dealer, member, opened, c, r, 0, round.round], out);
+    Ok(())
+}
+
+/// Judges a share of a member by his key and Y; it answers S. 3 other than 32 bytes; 6 y or Y; 4; 17; 6 S; 7; 10.
+fn judge(
+    round: &Round,
+    kind: &Kind,
+    member: u32,
+    key: u32,
+    encrypted: u32,
+    bytes: &[u8],
+) -> Answer<u32> {
+    let group = &round.group;
+    let Kind {
+        tag,
+        number,
+        dealer,
+    } = *kind;
+    require(bytes.len() == SIZE, 3)?;
+    require(group.is_key(key) && group.is_element(encrypted), 6)?;
+    let record = record::read(bytes);
+    let is_of_place = record[..3] == [number, dealer, member];
+    require(has_form(&record) && is_of_place, 4)?;
+    require(record[7] == round.round, 17)?;
+    let [_, _, _, opened, c, r, ..] = record;
+    require(group.is_element(opened), 6)?;
+    require(group.all_exponents(&[c, r]), 7)?;
+    let a1 = announced(group, H, key, c, r);
+    let a2 = announced(group, opened, encrypted, c, r);
+    let words = [key, encrypted, opened, a1, a2];
+    let recomputed = share_challenge(tag, round, dealer, member, &words);
+    require(c == recomputed, 10)?;
+    Ok(opened)
+}
 
 /// The operation, from Y, the secret key and the nonce: 1, 2; 8 dealer or member; 3 other than 32 bytes; 6; 7.
 pub fn write_share(
@@ -19,18 +100,9 @@ pub fn write_share(
     out: &mut [u8],
 ) -> Answer<()> {
     let round = figures.round()?;
-    let group = &round.group;
     require(round.has_member(dealer) && round.has_member(member), 8)?;
-    require(out.len() == SIZE, 3)?;
-    require(group.is_element(encrypted), 6)?;
-    require((1..group.q).contains(&secret_key) && nonce < group.q, 7)?;
-    let key = group.power(H, secret_key);
-    let opened = group.power(encrypted, inverse(secret_key, group.q));
-    let [a1, a2] = [H, opened].map(|base| group.power(base, nonce));
-    let c = share_challenge(&round, dealer, member, &[key, encrypted, opened, a1, a2]);
-    let r = response(group, nonce, c, secret_key);
-    record::write([SHARE, dealer, member, opened, c, r, 0, round.round], out);
-    Ok(())
+    let kind = Kind::opened(dealer);
+    write(&round, &kind, member, encrypted, secret_key, nonce, out)
 }
 
 /// The operation, with the member's key and the Y of his line; it answers S. 1, 2; 8; 3; 6 y or Y; 4; 17; 6 S; 7; 10.
@@ -43,24 +115,8 @@ pub fn judge_share(
     bytes: &[u8],
 ) -> Answer<u32> {
     let round = figures.round()?;
-    let group = &round.group;
     require(round.has_member(dealer) && round.has_member(member), 8)?;
-    require(bytes.len() == SIZE, 3)?;
-    require(group.is_key(key) && group.is_element(encrypted), 6)?;
-    let record = record::read(bytes);
-    require(
-        has_form(&record) && record[..3] == [SHARE, dealer, member],
-        4,
-    )?;
-    require(record[7] == round.round, 17)?;
-    let [_, _, _, opened, c, r, ..] = record;
-    require(group.is_element(opened), 6)?;
-    require(group.all_exponents(&[c, r]), 7)?;
-    let a1 = announced(group, H, key, c, r);
-    let a2 = announced(group, opened, encrypted, c, r);
-    let recomputed = share_challenge(&round, dealer, member, &[key, encrypted, opened, a1, a2]);
-    require(c == recomputed, 10)?;
-    Ok(opened)
+    judge(&round, &Kind::opened(dealer), member, key, encrypted, bytes)
 }
 
 #[cfg(test)]

@@ -10,6 +10,7 @@
 //! case of its own: argument 1 is the round of all cases behind it that take a round's figures. Before the first it is 0.
 //! So has the number of the first round under the new rule. The text of `draw` has both from the set.
 
+mod added;
 pub mod boards;
 pub mod cases;
 pub mod chains;
@@ -158,8 +159,8 @@ pub fn bytes(words: &[u32]) -> Vec<u8> {
     words.iter().flat_map(|word| word.to_be_bytes()).collect()
 }
 
-/// Every case, operation by operation; behind these the cases of rounds other than 0, those on chains, and those of rounds
-/// with a first round under the new rule.
+/// Every case, operation by operation; behind these the cases of rounds other than 0, those on chains, those of rounds with a
+/// first round under the new rule, and those of added shares.
 pub fn all() -> Vectors {
     let mut vectors = Vectors::default();
     digest::add(&mut vectors);
@@ -177,6 +178,7 @@ pub fn all() -> Vectors {
     rounds::add(&mut vectors);
     chains::add(&mut vectors);
     rules::add(&mut vectors);
+    added::add(&mut vectors);
     vectors
 }
 

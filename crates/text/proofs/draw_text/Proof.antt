@@ -8,7 +8,7 @@ use Rattle.words.proofs.Stages.{stage-met}
 use Rattle.sharing.specs.Setting.{settingOutcome}
 use Rattle.sharing.specs.declared.Round.{Round}
 use Rattle.sharing.proofs.Rounds.{setting-proper}
-use Rattle.verdicts.specs.Verdict.{judges}
+use Rattle.verdicts.specs.Shares.{judges}
 use Rattle.text.specs.Text.{refusedLine, boardText, setChecks, roundIn, drawText}
 use Rattle.text.proofs.Writing.{written-as, at-start}
 use Rattle.text.proofs.Lengths.{refused-room}

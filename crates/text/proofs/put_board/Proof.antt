@@ -2,7 +2,7 @@
 use mathlib.Core.Path.{refl, sym, _∙_}
 use Rattle.board.specs.Board.{boardChecks}
 use Rattle.board.proofs.Numbers.{board-met}
-use Rattle.verdicts.specs.Verdict.{judges}
+use Rattle.verdicts.specs.Shares.{judges}
 use Rattle.text.specs.Text.{refusedLine, report, boardTextIn}
 use Rattle.text.proofs.Writing.{room-as, written-as}
 use Rattle.text.proofs.Lengths.{refused-room, report-room}

@@ -192,7 +192,7 @@ mod tests {
     use super::*;
     use crate::replay::replay;
 
-    const NAMES: [&str; 21] = [
+    const NAMES: [&str; 25] = [
         "power",
         "degree",
         "opening",
@@ -203,10 +203,14 @@ mod tests {
         "judge_dealing",
         "write_share",
         "judge_share",
+        "write_added",
+        "judge_added",
         "write_dealing-whole",
         "judge_dealing-whole",
         "write_share-whole",
         "judge_share-whole",
+        "write_added-whole",
+        "judge_added-whole",
         "lines_check",
         "lines",
         "line",

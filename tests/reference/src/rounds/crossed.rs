@@ -2,6 +2,7 @@
 
 use super::firsts::{files, set_of, FOUR, LARGEST, SOURCES};
 use super::Cases;
+use crate::bench::Source;
 use crate::example::Round;
 use crate::numbers::Numbers;
 use crate::vectors::boards::posted::{any_members, is_line, is_opening, is_share, Posted};
@@ -21,11 +22,14 @@ fn of_the_other_rule(cases: &mut Cases) {
         (256, 256, 257),
         (u32::MAX, 0, u32::MAX),
     ] {
-        for (is_opened, source) in SOURCES {
+        for source in SOURCES {
             let figures = FOUR.with_round(round).with_first(first);
-            let round_of = files(figures, is_opened);
+            let round_of = files(figures, source);
             let set = set_of(figures.with_first(other));
-            let name = format!("round-{round}-of-first-{first}-in-{other}-{source}");
+            let name = format!(
+                "round-{round}-of-first-{first}-in-{other}-{}",
+                source.name()
+            );
             cases.with_set(&name, &round_of, set, "refused 14");
         }
     }
@@ -33,7 +37,7 @@ fn of_the_other_rule(cases: &mut Cases) {
         let figures = LARGEST.with_round(1).with_first(first);
         let name = format!("largest-of-first-{first}-in-{other}");
         let set = set_of(figures.with_first(other));
-        cases.with_set(&name, &files(figures, false), set, "refused 14");
+        cases.with_set(&name, &files(figures, Source::Recovered), set, "refused 14");
     }
 }
 

@@ -2,13 +2,13 @@
 
 use super::Cases;
 use super::Place::{File, Nothing};
-use crate::bench;
+use crate::bench::{self, Source};
 use crate::draw::set_record;
 use crate::example::{self, Round};
 use crate::record::{self, SIZE};
 use crate::round::Figures;
 
-pub const SOURCES: [(bool, &str); 2] = [(true, "opened"), (false, "recovered")];
+pub const SOURCES: [Source; 2] = [Source::Opened, Source::Recovered];
 
 pub const FOUR: Figures = Figures::of(3, 4, 2);
 pub const LARGEST: Figures = Figures::of(3, 31, 16);
@@ -22,8 +22,8 @@ pub fn add(cases: &mut Cases) {
 }
 
 /// The files of a round in which everyone has dealt.
-pub fn files(figures: Figures, is_opened: bool) -> Round {
-    let [(_, set), (_, board)] = bench::round(figures, is_opened);
+pub fn files(figures: Figures, source: Source) -> Round {
+    let [(_, set), (_, board)] = bench::round(figures, source);
     Round { set, board }
 }
 
@@ -43,10 +43,10 @@ fn changed(set: &[u8], word: usize, to: u32) -> Vec<u8> {
 fn played(cases: &mut Cases) {
     for (round, first) in [(1, 1), (u32::MAX, 0x0102_0304)] {
         for (number, n, t) in [(1, 1, 1), (1, 4, 2), (2, 10, 6), (3, 4, 4), (3, 31, 16)] {
-            for (is_opened, source) in SOURCES {
+            for source in SOURCES {
                 let figures = Figures::of(number, n, t).with_round(round);
-                let round_of = files(figures.with_first(first), is_opened);
-                let name = format!("round-{round}-first-{first}-{number}-{n}-{source}");
+                let round_of = files(figures.with_first(first), source);
+                let name = format!("round-{round}-first-{first}-{number}-{n}-{}", source.name());
                 cases.files(&name, &round_of, "draw ");
             }
         }
@@ -57,24 +57,24 @@ fn played(cases: &mut Cases) {
 fn border(cases: &mut Cases) {
     for first in [2, 256, 0x0102_0304, u32::MAX - 1] {
         for round in [first - 1, first, first + 1] {
-            for (is_opened, source) in SOURCES {
+            for source in SOURCES {
                 let figures = FOUR.with_round(round).with_first(first);
-                let name = format!("round-{round}-first-{first}-{source}");
-                cases.files(&name, &files(figures, is_opened), "draw ");
+                let name = format!("round-{round}-first-{first}-{}", source.name());
+                cases.files(&name, &files(figures, source), "draw ");
             }
         }
     }
     for round in [255, 256, 257] {
         let figures = LARGEST.with_round(round).with_first(256);
         let name = format!("round-{round}-first-256-largest");
-        cases.files(&name, &files(figures, false), "draw ");
+        cases.files(&name, &files(figures, Source::Recovered), "draw ");
     }
 }
 
 /// Round 0 is under the old rule, whatever the first round is.
 fn in_round_0(cases: &mut Cases) {
     let round = example::round();
-    let largest = files(LARGEST, false);
+    let largest = files(LARGEST, Source::Recovered);
     for first in [2, 256, 0x0100_0000, u32::MAX] {
         let set = changed(&round.set, 5, first);
         cases.with_set(&format!("set-first-{first}"), &round, set, "draw 13");
@@ -85,7 +85,7 @@ fn in_round_0(cases: &mut Cases) {
 
 /// The other words of a set with a first round.
 fn sets(cases: &mut Cases) {
-    let round = files(FOUR.with_round(1).with_first(1), true);
+    let round = files(FOUR.with_round(1).with_first(1), Source::Opened);
     for (word, to, end) in [
         (0, 8, "refused 4"),
         (6, 1, "refused 4"),

@@ -2,7 +2,7 @@
 
 use super::Cases;
 use super::Place::{File, Nothing};
-use crate::bench;
+use crate::bench::{self, Source};
 use crate::example::{self, Round};
 use crate::numbers::Numbers;
 use crate::record::{self, KEY, LINE, OPENING, SHARE};
@@ -29,10 +29,10 @@ fn everything(round: u32) -> Posted {
 fn played(cases: &mut Cases) {
     for round in [1, u32::MAX] {
         for (number, n, t) in [(1, 4, 2), (2, 10, 6), (3, 31, 16)] {
-            for (is_opened, source) in [(true, "opened"), (false, "recovered")] {
+            for source in [Source::Opened, Source::Recovered] {
                 let figures = Figures::of(number, n, t).with_round(round);
-                let [(_, set), (_, board)] = bench::round(figures, is_opened);
-                let name = format!("round-{round}-{number}-{n}-{source}");
+                let [(_, set), (_, board)] = bench::round(figures, source);
+                let name = format!("round-{round}-{number}-{n}-{}", source.name());
                 cases.files(&name, &Round { set, board }, "draw ");
             }
         }

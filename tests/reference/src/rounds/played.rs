@@ -1,7 +1,7 @@
 //! Rounds as they are played: the examples, the boards in tests/forged, and the largest boards.
 
 use super::Cases;
-use crate::bench;
+use crate::bench::{self, Source};
 use crate::draw::set_record;
 use crate::example::{self, Round};
 use crate::forge;
@@ -20,7 +20,7 @@ pub fn add(cases: &mut Cases) {
 /// The boards in tests/forged.
 fn forged(cases: &mut Cases) {
     let [(_, set), boards @ ..] = forge::files();
-    for ((name, board), end) in boards.into_iter().zip(["2", "2", "9", "2", "9"]) {
+    for ((name, board), end) in boards.into_iter().zip(["2", "2", "9", "2", "9", "2", "9"]) {
         let name = name.trim_end_matches(".bin");
         let set = set.clone();
         cases.files(
@@ -35,9 +35,9 @@ fn forged(cases: &mut Cases) {
 fn largest(cases: &mut Cases) {
     for number in [2, 3] {
         for t in [1, 16, 31] {
-            for (is_opened, source) in [(true, "opened"), (false, "recovered")] {
-                let [(_, set), (_, board)] = bench::round(Figures::of(number, 31, t), is_opened);
-                let name = format!("largest-{number}-{t}-{source}");
+            for source in [Source::Opened, Source::Recovered] {
+                let [(_, set), (_, board)] = bench::round(Figures::of(number, 31, t), source);
+                let name = format!("largest-{number}-{t}-{}", source.name());
                 cases.files(&name, &Round { set, board }, "draw ");
             }
         }

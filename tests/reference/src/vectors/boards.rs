@@ -9,7 +9,7 @@ pub mod lines;
 pub mod played;
 pub mod posted;
 pub mod refused;
-mod varied;
+pub mod varied;
 
 use super::sample::rounds;
 use super::splices::splices;
@@ -28,6 +28,10 @@ const TEXT: Operation = Operation {
 const LARGEST: [(u32, u32); 4] = [(2, 16), (3, 1), (3, 16), (3, 31)];
 
 impl Posted {
+    pub fn text(&self) -> String {
+        draw::text(&self.set, &self.board())
+    }
+
     /// Adds a case. Returns the text.
     pub fn add(&self, vectors: &mut Vectors) -> String {
         add_files(vectors, &self.set, &self.board())
@@ -35,7 +39,7 @@ impl Posted {
 }
 
 /// Adds a case of the bytes of both files. Returns the text.
-fn add_files(vectors: &mut Vectors, set: &[u8], board: &[u8]) -> String {
+pub fn add_files(vectors: &mut Vectors, set: &[u8], board: &[u8]) -> String {
     let text = draw::text(set, board);
     let lengths = [vectors.base.len() as u32, set.len() as u32];
     let arguments = [0, 0, 0, 0, lengths[0], lengths[1]];

@@ -1,5 +1,6 @@
 //! Tests that the vectors have every class of cases.
 
+mod added;
 mod chains;
 mod crossed;
 mod exponents;
@@ -85,7 +86,7 @@ fn failed(checks: impl IntoIterator<Item = (u32, bool)>) -> Vec<u32> {
 }
 
 /// The numbers by which each operation refuses.
-const NUMBERS: [(u32, &[u32]); 14] = [
+const NUMBERS: [(u32, &[u32]); 16] = [
     (1, &[3]),
     (2, &[1, 6, 7]),
     (3, &[1, 2, 3, 6, 7, 9]),
@@ -100,6 +101,8 @@ const NUMBERS: [(u32, &[u32]); 14] = [
     (15, &[1, 3, 6, 15, 16]),
     (17, &[1, 3, 4, 6, 18, 19]),
     (18, &[1, 3, 4, 6, 18, 19]),
+    (20, &[1, 2, 3, 6, 7, 8]),
+    (21, &[1, 2, 3, 4, 6, 7, 8, 10, 17]),
 ];
 
 /// Tests that the cases have every number of the operation, and one that is not refused.
@@ -120,11 +123,11 @@ fn every_number_of_each_operation() {
     }
 }
 
-/// From 3 to 10 the operations of a round, and a dealer's lines.
+/// From 3 to 10 the operations of a round, a dealer's lines, and added shares.
 #[test]
 fn the_fewest_members_and_the_most() {
     let cases = cases();
-    for operation in [3, 4, 5, 7, 8, 9, 10, 11] {
+    for operation in [3, 4, 5, 7, 8, 9, 10, 11, 20, 21] {
         for (number, n) in [(1, 1), (2, 1), (3, 1), (1, 10), (3, 31)] {
             let is_one = |case: &Case| {
                 let has_figures = case.arguments[..2] == [number, n];
@@ -172,9 +175,11 @@ fn figures_1_are_accepted() {
         };
         assert!(answered(8).any(|case| case.answer == "passed" && is_one(case)));
         let encrypted_1 = |case: &Case| case.payload[4..8] == [0, 0, 0, 1];
-        assert!(answered(10).any(|case| {
-            case.arguments[0] == number && case.answer == "1" && encrypted_1(case)
-        }));
+        for operation in [10, 21] {
+            assert!(answered(operation).any(|case| {
+                case.arguments[0] == number && case.answer == "1" && encrypted_1(case)
+            }));
+        }
     }
 }
 

@@ -2,7 +2,7 @@
 
 mod boards;
 pub mod dealings;
-mod records;
+pub mod records;
 pub mod renumbered;
 pub mod shares;
 mod sharing;
@@ -13,10 +13,10 @@ use crate::numbers::Numbers;
 use std::collections::BTreeSet;
 
 /// The first round, others whose bytes differ, and the last.
-const ROUNDS: [u32; 4] = [1, 256, 0x0102_0304, u32::MAX];
+pub const ROUNDS: [u32; 4] = [1, 256, 0x0102_0304, u32::MAX];
 
 /// A round that something is written for, and another in which it is judged.
-const OTHERS: [(u32, u32); 7] = [
+pub const OTHERS: [(u32, u32); 7] = [
     (0, 1),
     (1, 0),
     (1, 2),
@@ -27,7 +27,7 @@ const OTHERS: [(u32, u32); 7] = [
 ];
 
 /// Other numbers in a round's place: 0, the next one, the same bytes backwards, and one that differs in the first bit.
-fn others(round: u32) -> BTreeSet<u32> {
+pub fn others(round: u32) -> BTreeSet<u32> {
     let next = round.wrapping_add(1);
     let mut others = BTreeSet::from([0, next, round.swap_bytes(), round ^ 0x8000_0000]);
     others.remove(&round);

@@ -2,11 +2,11 @@
 
 mod boards;
 mod border;
-mod crossed;
+pub mod crossed;
 mod largest;
 mod mixed;
 mod refused;
-mod same;
+pub mod same;
 mod sets;
 mod sharing;
 mod uncarried;
@@ -29,7 +29,7 @@ const RULES: [(u32, u32, u32); 5] = [
 
 /// A round and a first round at the border of the rules: the round before, the first one and the next. Then round 0 and
 /// others without a first round.
-fn border() -> Vec<(u32, u32)> {
+pub fn border() -> Vec<(u32, u32)> {
     let mut border = Vec::new();
     for first in FIRSTS {
         border.extend([first - 1, first].map(|round| (round, first)));
@@ -41,7 +41,7 @@ fn border() -> Vec<(u32, u32)> {
 
 /// The figures of a round under each rule, the one that something is written by and the one that it is judged by, both
 /// ways round.
-fn crossings(figures: Figures) -> Vec<[Figures; 2]> {
+pub fn crossings(figures: Figures) -> Vec<[Figures; 2]> {
     let rules = RULES.into_iter().flat_map(|(round, old, new)| {
         let figures = figures.with_round(round);
         [[old, new], [new, old]].map(|firsts| firsts.map(|first| figures.with_first(first)))

@@ -1,5 +1,6 @@
 -- `is_shaped` meets its contract: the kind that a record has decides which of its words are a member's.
 use borrow.Author.Needs.{needs}
+use borrow.Author.Tests.{eq-eqb, ne-eqb}
 use Rattle.board.specs.Board.{isShaped}
 use Rattle.board.proofs.form.is_shaped.Statement.{statement}
 use Rattle.board.proofs.form.is_shaped.Tie as tie
@@ -81,14 +82,43 @@ returns-6 c =
     simp
     (← k .before .is-key-record .ensures, k .if1 .left, ← l .before .is-line-record .ensures, l .if2 .left, ← o .before .is-opening-record .ensures, o .if4 .left, ← s .before .is-share-record .ensures, s .if5 .taken, ← c .before .is-member5 .ensures, c .if6 .left)
 
+is-share-record-requires-2 : tie.Need-is-share-record-requires-2
+is-share-record-requires-2 c κs = search needs
+
+is-member-requires-7 : tie.Need-is-member-requires-7
+is-member-requires-7 c κs = search needs
+
 returns-7 : tie.Need-returns-7
 unfolding isShaped
 returns-7 c =
-    let o = c .before .before in
+    let a = c .before .before .before in
+    let s = a .before .before in
+    let o = s .before .before in
     let l = o .before .before in
     let k = l .before .before in
     simp
-    (← k .before .is-key-record .ensures, k .if1 .left, ← l .before .is-line-record .ensures, l .if2 .left, ← o .before .is-opening-record .ensures, o .if4 .left, ← c .before .is-share-record .ensures, c .if5 .left)
+    (← k .before .is-key-record .ensures, k .if1 .left, ← l .before .is-line-record .ensures, l .if2 .left, ← o .before .is-opening-record .ensures, o .if4 .left, ← s .before .is-share-record .ensures, s .if5 .left, ← a .before .is-share-record2 .ensures, a .if7 .taken, eq-eqb _ 0 (c .before .if8 .taken), ← c .is-member7 .ensures)
+
+returns-8 : tie.Need-returns-8
+unfolding isShaped
+returns-8 c =
+    let a = c .before .before in
+    let s = a .before .before in
+    let o = s .before .before in
+    let l = o .before .before in
+    let k = l .before .before in
+    simp
+    (← k .before .is-key-record .ensures, k .if1 .left, ← l .before .is-line-record .ensures, l .if2 .left, ← o .before .is-opening-record .ensures, o .if4 .left, ← s .before .is-share-record .ensures, s .if5 .left, ← a .before .is-share-record2 .ensures, a .if7 .taken, ne-eqb _ 0 (c .if8 .left))
+
+returns-9 : tie.Need-returns-9
+unfolding isShaped
+returns-9 c =
+    let s = c .before .before in
+    let o = s .before .before in
+    let l = o .before .before in
+    let k = l .before .before in
+    simp
+    (← k .before .is-key-record .ensures, k .if1 .left, ← l .before .is-line-record .ensures, l .if2 .left, ← o .before .is-opening-record .ensures, o .if4 .left, ← s .before .is-share-record .ensures, s .if5 .left, ← c .before .is-share-record2 .ensures, c .if7 .left)
 
 pub is-shaped-spec : {M : Type 1} → statement M
 is-shaped-spec =
@@ -110,4 +140,8 @@ is-shaped-spec =
     is-member-requires-6
     returns-5
     returns-6
-    returns-7)
+    is-share-record-requires-2
+    is-member-requires-7
+    returns-7
+    returns-8
+    returns-9)

@@ -12,10 +12,10 @@ returns : tie.Need-returns
 returns c = simp (failed (c .before .is-share-record .ensures) (c .if1 .taken))
 
 returns-2 : tie.Need-returns-2
-returns-2 c = let s = c .before .before in simp (passed (s .before .is-share-record .ensures) (s .if1 .left), ne-eqb _ _ (c .if2 .taken))
+returns-2 c = let s = c .before .before .before in simp (passed (s .before .is-share-record .ensures) (s .if1 .left), ne-eqb _ _ (c .if2 .taken))
 
 returns-3 : tie.Need-returns-3
-returns-3 c = let s = c .before .before .before in simp (passed (s .before .is-share-record .ensures) (s .if1 .left), eq-eqb _ _ (c .before .if2 .left))
+returns-3 c = let s = c .before .before .before .before in simp (passed (s .before .is-share-record .ensures) (s .if1 .left), eq-eqb _ _ (c .before .if2 .left))
 
 pub is-share-of-spec : {M : Type 1} → statement M
 is-share-of-spec = tie.close (tie.spec is-share-record-requires returns returns-2 returns-3)

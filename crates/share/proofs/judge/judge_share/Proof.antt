@@ -1,40 +1,21 @@
--- `judge_share` meets its contract: a refusal of the round is handed on, and else its setting answers.
-use mathlib.Core.Path.{_∙_}
+-- `judge_share` meets its contract: it is the judging in the form of an opened share.
+use mathlib.Core.Path.{ap, _∙_}
 use borrow.Author.Needs.{needs}
-use Rattle.sharing.proofs.Rounds.{judged-refused, judged-value, setting-proper}
-use Rattle.share.specs.Share.{judgeShareIn, judgeShareOutcome}
+use Rattle.share.specs.declared.ShareForm.{ShareForm}
+use Rattle.share.specs.Share.{judgeShareOutcome}
 use Rattle.share.proofs.judge.judge_share.Statement.{statement}
 use Rattle.share.proofs.judge.judge_share.Tie as tie
 
-setting-of-requires : tie.Need-setting-of-requires
-setting-of-requires c κs = search needs
+opened-form-requires : tie.Need-opened-form-requires
+opened-form-requires c κs = search needs
 
-enum-known-k : tie.Need-enum-known-k
-enum-known-k c = search needs
-
-enum-known-s : tie.Need-enum-known-s
-enum-known-s c = search needs
-
-judge-share-in-requires : tie.Need-judge-share-in-requires
-judge-share-in-requires c κs = setting-proper _ (c .before .before .before .setting-of .ensures) (c .before .s .given .1)
+judge-requires : tie.Need-judge-requires
+judge-requires c κs = search needs
 
 returns : tie.Need-returns
-unfolding judgeShareOutcome
-returns c = judged-refused _ _ _ (c .before .before .before .setting-of .ensures) (c .before .k .given .1)
-
-returns-2 : tie.Need-returns-2
-unfolding judgeShareOutcome judgeShareIn
-returns-2 c =
-    let g = c .before .before in
-    c .judge-share-in .ensures ∙ judged-value _ _ _ (g .before .before .setting-of .ensures) (g .s .given .1)
+returns c =
+    let a = c .before .before .before .args in
+    c .judge .ensures ∙ ap (λ (F : ShareForm). judgeShareOutcome (a .rd) F (a .i) (a .y .0) (a .encrypted .0) (a .b .now)) (c .before .opened-form .ensures)
 
 pub judge-share-spec : {M : Type 1} → statement M
-judge-share-spec =
-    tie.close
-    (tie.spec
-    setting-of-requires
-    enum-known-k
-    enum-known-s
-    judge-share-in-requires
-    returns
-    returns-2)
+judge-share-spec = tie.close (tie.spec opened-form-requires judge-requires returns)

@@ -39,8 +39,8 @@ same-length c = search needs
 returns : tie.Need-returns
 returns c =
     let p = c .before .before in
-    let l = p .before in
-    let r = l .before .before in
+    let l = p .before .before in
+    let r = l .before in
     let h = r .before in
     let a2 = h .before in
     let a1 = a2 .before in
@@ -50,7 +50,7 @@ returns c =
     let a = k .before .before .args in
     p .write-record .ensures
     ∙ ap recordBytes (l .share-record .ensures)
-    ∙ share-bytes (a .s) (a .d) (a .i) (a .encrypted .0) (a .x .0) (a .w .0) (k .inverse .ensures) (Z .power .ensures) (y .power2 .ensures) (a1 .power3 .ensures) (a2 .power4 .ensures) (h .share-challenge .ensures) (r .response .ensures)
+    ∙ share-bytes (a .s) (a .form) (a .i) (a .encrypted .0) (a .x .0) (a .w .0) (k .inverse .ensures) (Z .power .ensures) (y .power2 .ensures) (a1 .power3 .ensures) (a2 .power4 .ensures) (h .share-challenge .ensures) (r .response .ensures)
 
 pub put-share-spec : {M : Type 1} → statement M
 put-share-spec =

@@ -1,48 +1,29 @@
--- `write_share` meets its contract: a refusal of the round is handed on and the bytes are kept, and else its setting answers.
-use mathlib.Core.Path.{_∙_}
+-- `write_share` meets its contract: it is the writing in the form of an opened share.
+use mathlib.Core.Path.{ap, _∙_}
 use borrow.Author.Needs.{needs}
-use Rattle.sharing.proofs.Rounds.{judged-refused, judged-value, judged-kept, judged-lent, setting-proper}
-use Rattle.share.specs.Share.{writeShareIn, writeShareOutcome, lentAfterShareIn, lentAfterShare}
+use lib.ListN.{length}
+use Rattle.share.specs.declared.ShareForm.{ShareForm}
+use Rattle.share.specs.Share.{writeShareOutcome, lentAfterShare}
 use Rattle.share.proofs.writer.write_share.Statement.{statement}
 use Rattle.share.proofs.writer.write_share.Tie as tie
 
-setting-of-requires : tie.Need-setting-of-requires
-setting-of-requires c κs = search needs
+opened-form-requires : tie.Need-opened-form-requires
+opened-form-requires c κs = search needs
 
-enum-known-k : tie.Need-enum-known-k
-enum-known-k c = search needs
-
-enum-known-s : tie.Need-enum-known-s
-enum-known-s c = search needs
-
-write-share-in-requires : tie.Need-write-share-in-requires
-write-share-in-requires c κs = setting-proper _ (c .before .before .before .before .setting-of .ensures) (c .before .before .s .given .1)
-
-returns : tie.Need-returns
-unfolding writeShareOutcome lentAfterShare
-returns c =
-    let e = c .before .before .before .setting-of .ensures in
-    (judged-refused _ _ _ e (c .before .k .given .1), judged-kept _ _ _ e (c .before .k .given .1) _)
+write-requires : tie.Need-write-requires
+write-requires c κs = search needs
 
 same-length : tie.Need-same-length
 same-length c = search needs
 
-returns-2 : tie.Need-returns-2
-unfolding writeShareOutcome writeShareIn lentAfterShare lentAfterShareIn
-returns-2 c =
+returns : tie.Need-returns
+returns c =
     let w = c .before .before in
-    let g = w .before .before .before in
-    let e = g .before .before .setting-of .ensures in
-    (w .write-share-in .ensures .0 ∙ judged-value _ _ _ e (g .s .given .1), w .write-share-in .ensures .1 ∙ judged-lent _ _ _ e (g .s .given .1) _)
+    let f = w .before .before in
+    let a = f .before .before .args in (
+      w .write .ensures .0 ∙ ap (λ (F : ShareForm). writeShareOutcome (a .rd) F (a .i) (a .encrypted .0) (a .x .0) (a .w .0) (length (a .out .now))) (f .opened-form .ensures),
+      w .write .ensures .1 ∙ ap (λ (F : ShareForm). lentAfterShare (a .rd) F (a .i) (a .encrypted .0) (a .x .0) (a .w .0) (a .out .now)) (f .opened-form .ensures),
+    )
 
 pub write-share-spec : {M : Type 1} → statement M
-write-share-spec =
-    tie.close
-    (tie.spec
-    setting-of-requires
-    enum-known-k
-    enum-known-s
-    write-share-in-requires
-    returns
-    same-length
-    returns-2)
+write-share-spec = tie.close (tie.spec opened-form-requires write-requires same-length returns)

@@ -8,8 +8,9 @@ use lib.Seq.{length-take-le}
 use Rattle.records.proofs.Members.{members-front}
 use Rattle.board.specs.Board.{keyIn, keysIn}
 use Rattle.board.proofs.Order.{reached, sorted}
-use Rattle.verdicts.specs.Verdict.{judges, verdictOn}
-use Rattle.verdicts.proofs.Turns.{DealersAbove, above-start, above-next, count-most}
+use Rattle.verdicts.specs.Shares.{judges}
+use Rattle.verdicts.specs.Verdict.{verdictOn}
+use Rattle.verdicts.proofs.Turns.{DealersAbove, above-start, above-next, all-verdicts, count-most}
 use Rattle.verdicts.proofs.Judgements.{above-judged}
 use Rattle.verdicts.proofs.judge.all_verdicts.Statement.{statement}
 use Rattle.verdicts.proofs.judge.all_verdicts.Tie as tie
@@ -96,7 +97,11 @@ loop-again c =
     )
 
 draw-answer-requires : tie.Need-draw-answer-requires Inv-loop μ-loop
-draw-answer-requires c κs = search needs
+draw-answer-requires c κs =
+    let l = c .before .loop in
+    let w = c .before .before .before .before .before in
+    let a = w .args in
+    (w .pre .0, w .pre .1, all-verdicts (verdictOn judges (a .s) (a .b .now)) _ (a .s .n) (l .d) (l .verdicts) (l .accepted) (l .stuck) (l .product .0) (l .inv .2) (omega (arith, c .loop-test .left)))
 
 returns : tie.Need-returns Inv-loop μ-loop
 returns c =

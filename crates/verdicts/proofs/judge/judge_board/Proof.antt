@@ -3,7 +3,7 @@ use mathlib.Core.Path.{sym, _∙_, subst}
 use borrow.Author.Needs.{needs}
 use Rattle.sharing.proofs.Rounds.{setting-proper}
 use Rattle.board.proofs.Numbers.{board-met}
-use Rattle.verdicts.specs.Verdict.{judges}
+use Rattle.verdicts.specs.Shares.{judges}
 use Rattle.verdicts.specs.Draw.{JudgementOf}
 use Rattle.verdicts.proofs.Judgements.{round-judged, board-judged, verdicts-judged}
 use Rattle.verdicts.proofs.judge.judge_board.Statement.{statement}

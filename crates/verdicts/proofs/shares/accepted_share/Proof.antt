@@ -3,8 +3,7 @@ use mathlib.Core.Path.{ap, _∙_}
 use native.Mathlib.Omega.{arith}
 use borrow.Author.Needs.{needs}
 use Rattle.records.specs.Layout.{entry, recordAt}
-use Rattle.verdicts.proofs.ShareAnswers.{lines-sorted, share-member, share-dealer, answered}
-use Rattle.verdicts.proofs.Secrets.{encrypted-count}
+use Rattle.verdicts.proofs.ShareAnswers.{shares-sorted, share-member, share-dealer, answered}
 use Rattle.verdicts.proofs.shares.accepted_share.Statement.{statement}
 use Rattle.verdicts.proofs.shares.accepted_share.Tie as tie
 
@@ -12,7 +11,7 @@ record-at-requires : tie.Need-record-at-requires
 record-at-requires c κs = omega (arith, c .before .before .pre .0 .inside)
 
 find-key-requires : tie.Need-find-key-requires
-find-key-requires c κs = lines-sorted (c .before .before .before .pre .1)
+find-key-requires c κs = shares-sorted (c .before .before .before .pre .1)
 
 record-at-requires-2 : tie.Need-record-at-requires-2
 record-at-requires-2 c κs =
@@ -36,7 +35,7 @@ shared-slice-read-t12 c =
     let r = c .before .before .before .before in
     let w = r .before .before .before in
     let m = share-member (w .pre .1) (w .pre .0) (r .record-at .ensures) in
-    omega (arith, m .0, m .1, encrypted-count (w .args .s) (w .args .b .now) (w .args .d) (w .pre .2))
+    omega (arith, m .0, m .1, w .pre .1 .size)
 
 judge-share-figures-requires : tie.Need-judge-share-figures-requires
 judge-share-figures-requires c κs =
@@ -52,7 +51,7 @@ returns c =
     let r = f .before in
     let w = r .before .before .before in
     c .judge-share-figures .ensures
-    ∙ answered (w .pre .1) (w .pre .0) (r .record-at .ensures) (k .record-at2 .ensures ∙ ap (recordAt (w .args .b .now)) (f .find-key .ensures)) (w .pre .2)
+    ∙ answered (w .pre .1) (w .pre .0) (r .record-at .ensures) (k .record-at2 .ensures ∙ ap (recordAt (w .args .b .now)) (f .find-key .ensures))
 
 pub accepted-share-spec : {M : Type 1} → statement M
 accepted-share-spec =

@@ -21,7 +21,7 @@ returns c =
     let s = c .before .before in
     let w = s .before .before .before in
     let a = w .args in
-    with-none (a .s) (a .b .now) (a .d) (a .i) (w .pre .0) (a .found) (s .accepted-share .ensures) (c .enum-told .given .1)
+    with-none (a .s) (a .b .now) (a .form) (a .encrypted .now) (a .i) (w .pre .0) (a .found) (s .accepted-share .ensures) (c .enum-told .given .1)
 
 record-at-requires : tie.Need-record-at-requires
 record-at-requires c κs = search needs
@@ -48,7 +48,7 @@ returns-2 c =
     let s = v .before .before in
     let w = s .before .before .before in
     let a = w .args in
-    with-one (a .s) (a .b .now) (a .d) (a .i) (w .pre .0) (a .found) (s .accepted-share .ensures) _ (v .decrypted .given .1) (ap (λ (r : Record). memberOf r) (r .record-at .ensures))
+    with-one (a .s) (a .b .now) (a .form) (a .encrypted .now) (a .i) (w .pre .0) (a .found) (s .accepted-share .ensures) _ (v .decrypted .given .1) (ap (λ (r : Record). memberOf r) (r .record-at .ensures))
 
 pub with-share-spec : {M : Type 1} → statement M
 with-share-spec =

@@ -1,65 +1,44 @@
--- `from_shares` meets its contract: fewer than t found is stuck, and t found are what recovery is given.
-use mathlib.Core.Path.{sym, _∙_}
+-- `from_shares` meets its contract: where recovery is refused the dealing is stuck.
+use mathlib.Core.Path.{sym, subst}
 use borrow.Author.Needs.{needs}
-use Rattle.verdicts.specs.Verdict.{judges}
-use Rattle.verdicts.proofs.Secrets.{members-count, shares-count, members-room, shares-room, found-low, found-few, found-enough}
+use Rattle.share.specs.declared.ShareForm.{ShareForm}
+use Rattle.verdicts.specs.Posted.{SharesOn}
+use Rattle.verdicts.proofs.Secrets.{lines-shares, from-refused, from-value}
 use Rattle.verdicts.proofs.verdicts.from_shares.Statement.{statement}
 use Rattle.verdicts.proofs.verdicts.from_shares.Tie as tie
 
-lowest-shares-requires : tie.Need-lowest-shares-requires
-lowest-shares-requires c κs = search needs
+opened-form-requires : tie.Need-opened-form-requires
+opened-form-requires c κs = search needs
 
-cast-if1 : tie.Need-cast-if1
-cast-if1 c = search needs
+from-lowest-requires : tie.Need-from-lowest-requires
+from-lowest-requires c κs =
+    let w = c .before .before .before in
+    let a = w .args in
+    subst (λ (F : ShareForm). SharesOn (a .s) (a .b .now) F (a .encrypted .now)) (sym (c .opened-form .ensures)) (lines-shares (a .s) (a .b .now) (a .d) (w .pre .0) (w .pre .1))
+
+enum-told : tie.Need-enum-told
+enum-told c = search needs
+
+enum-known-v : tie.Need-enum-known-v
+enum-known-v c = search needs
 
 returns : tie.Need-returns
 returns c =
     let l = c .before .before in
-    found-few judges (l .before .before .before .pre .0) (l .lowest-shares .ensures) (c .if1 .taken)
-
-array-share-prefix-members : tie.Need-array-share-prefix-members
-array-share-prefix-members c =
-    let l = c .before .before .before .before in
-    members-room judges (l .before .before .before .pre .0) (l .lowest-shares .ensures)
-
-slice-aggregate-recovered-from : tie.Need-slice-aggregate-recovered-from
-slice-aggregate-recovered-from c =
-    let l = c .before .before .before .before .before in
-    sym (members-count judges (l .before .before .before .pre .0) (l .lowest-shares .ensures))
-
-array-share-prefix-shares : tie.Need-array-share-prefix-shares
-array-share-prefix-shares c =
-    let l = c .before .before .before .before .before in
-    shares-room judges (l .before .before .before .pre .0) (l .lowest-shares .ensures)
-
-slice-aggregate-recovered-from-2 : tie.Need-slice-aggregate-recovered-from-2
-slice-aggregate-recovered-from-2 c =
-    let l = c .before .before .before .before .before .before in
-    sym (shares-count judges (l .before .before .before .pre .0) (l .lowest-shares .ensures))
-
-recovered-from-requires : tie.Need-recovered-from-requires
-recovered-from-requires c κs =
-    let l = c .before .before .before .before .before .before in
-    let L = l .before .before .before .pre .0 in
-    let e = l .lowest-shares .ensures in
-    (L .proper .proper, found-low judges L e, members-count judges L e ∙ sym (shares-count judges L e))
+    let o = l .before in
+    let w = o .before .before .before in
+    let a = w .args in
+    from-refused (a .s) (a .b .now) (a .d) (o .opened-form .ensures) (w .pre .1) _ (l .from-lowest .ensures) (c .enum-told .given .1)
 
 returns-2 : tie.Need-returns-2
 returns-2 c =
-    let i = c .before .before .before .before .before in
-    let l = i .before .before in
-    found-enough judges (l .before .before .before .pre .0) (l .lowest-shares .ensures) (i .if1 .left) (c .recovered-from .ensures)
+    let l = c .before .before .before in
+    let o = l .before in
+    let w = o .before .before .before in
+    let a = w .args in
+    from-value (a .s) (a .b .now) (a .d) (o .opened-form .ensures) (w .pre .1) _ (l .from-lowest .ensures) (c .before .v .given .1)
 
 pub from-shares-spec : {M : Type 1} → statement M
 from-shares-spec =
     tie.close
-    (tie.spec
-    lowest-shares-requires
-    cast-if1
-    returns
-    array-share-prefix-members
-    slice-aggregate-recovered-from
-    array-share-prefix-shares
-    slice-aggregate-recovered-from-2
-    recovered-from-requires
-    returns-2)
+    (tie.spec opened-form-requires from-lowest-requires enum-told enum-known-v returns returns-2)

@@ -5,13 +5,12 @@ use borrow.Author.Needs.{needs}
 use Rattle.words.specs.declared.Record.{Record}
 use Rattle.words.proofs.Tests.{passed, failed}
 use Rattle.records.specs.Layout.{uOf, recordAt}
-use Rattle.verdicts.proofs.ShareAnswers.{lines-sorted}
-use Rattle.verdicts.proofs.Secrets.{commitments-count, opened-none, opened-high, opened-told}
+use Rattle.verdicts.proofs.Secrets.{lines-sorted, commitments-count, opened-none, opened-high, opened-told}
 use Rattle.verdicts.proofs.verdicts.is_opened.Statement.{statement}
 use Rattle.verdicts.proofs.verdicts.is_opened.Tie as tie
 
 find-opening-requires : tie.Need-find-opening-requires
-find-opening-requires c κs = lines-sorted (c .before .before .pre .0)
+find-opening-requires c κs = lines-sorted _ _ _ (c .before .before .pre .0)
 
 records-requires : tie.Need-records-requires
 records-requires c κs = search needs

@@ -6,10 +6,9 @@ use borrow.Author.Tests.{not-true, not-false}
 use lib.ListN.{length, take}
 use Rattle.words.specs.declared.Record.{Record}
 use Rattle.records.specs.Layout.{uOf, recordAt}
-use Rattle.verdicts.specs.Verdict.{judges, commitmentsOf}
-use Rattle.verdicts.specs.Posted.{encryptedOf}
-use Rattle.verdicts.proofs.ShareAnswers.{lines-sorted}
-use Rattle.verdicts.proofs.Secrets.{full-taken, commitments-are, encrypted-are, commitments-count, encrypted-count, opening-inside, secret-shares, secret-opened}
+use Rattle.verdicts.specs.Shares.{judges}
+use Rattle.verdicts.specs.Verdict.{commitmentsOf, encryptedOf}
+use Rattle.verdicts.proofs.Secrets.{lines-sorted, full-taken, commitments-are, encrypted-are, commitments-count, encrypted-count, opening-inside, secret-shares, secret-opened}
 use Rattle.verdicts.proofs.verdicts.secret.Statement.{statement}
 use Rattle.verdicts.proofs.verdicts.secret.Tie as tie
 
@@ -59,7 +58,7 @@ returns c =
     c .from-shares .ensures ∙ secret-shares (a .s) (a .b .now) (a .d) judges (sym (o .is-opened .ensures) ∙ not-true _ (i .if1 .taken))
 
 find-opening-requires : tie.Need-find-opening-requires
-find-opening-requires c κs = lines-sorted (c .before .before .before .before .before .before .pre .0)
+find-opening-requires c κs = lines-sorted _ _ _ (c .before .before .before .before .before .before .pre .0)
 
 record-at-requires : tie.Need-record-at-requires
 record-at-requires c κs =

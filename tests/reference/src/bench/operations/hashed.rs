@@ -7,6 +7,7 @@ use crate::group::{G, H};
 use crate::numbers::Numbers;
 use crate::record::SIZE;
 use crate::round::{Figures, Round};
+use crate::share::added::write_added;
 use crate::share::write_share;
 use crate::vectors::sample::{keys, list, proper};
 use crate::vectors::{buffered, bytes};
@@ -19,6 +20,8 @@ pub fn case(name: &str, figures: Figures) -> Option<Case> {
         "judge_dealing" => judge_dealing(figures, numbers),
         "write_share" => write_share_case(&proper(figures), numbers),
         "judge_share" => judge_share(figures, numbers),
+        "write_added" => write_added_case(&proper(figures), numbers),
+        "judge_added" => judge_added(figures, numbers),
         _ => return None,
     })
 }
@@ -50,7 +53,7 @@ fn judge_dealing(figures: Figures, numbers: &mut Numbers) -> Case {
     Case::of(8, &arguments, [bytes(&keys), lines].concat())
 }
 
-/// Y, the secret key and the nonce of an opened share.
+/// Y, the secret key and the nonce of a share.
 fn share(round: &Round, numbers: &mut Numbers) -> [u32; 3] {
     let q = round.group.q;
     let encrypted = round.group.power(G, numbers.below(q));
@@ -78,6 +81,28 @@ fn judge_share(figures: Figures, numbers: &mut Numbers) -> Case {
     let figures = bytes(&[round.group.power(H, x), encrypted]);
     let arguments = [DEALER, MEMBER, SIZE as u32];
     Case::of(10, &arguments, [figures, record].concat())
+}
+
+/// The dealer's place in the header is 0.
+fn write_added_case(round: &Round, numbers: &mut Numbers) -> Case {
+    let payload = buffered(&share(round, numbers), SIZE);
+    Case::of(20, &[0, MEMBER, SIZE as u32], payload)
+}
+
+fn judge_added(figures: Figures, numbers: &mut Numbers) -> Case {
+    let round = &proper(figures);
+    let [encrypted, x, nonce] = share(round, numbers);
+    let mut record = vec![0; SIZE];
+    written(write_added(
+        figures,
+        MEMBER,
+        encrypted,
+        x,
+        nonce,
+        &mut record,
+    ));
+    let figures = bytes(&[round.group.power(H, x), encrypted]);
+    Case::of(21, &[0, MEMBER, SIZE as u32], [figures, record].concat())
 }
 
 fn written(answer: Answer<()>) {

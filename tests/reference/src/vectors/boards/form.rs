@@ -3,7 +3,7 @@
 use super::super::Vectors;
 use super::posted::{is_opening, is_share, Posted};
 use super::refused_by;
-use crate::record::{KEY, LINE, OPENING, SHARE};
+use crate::record::{ADDED, KEY, LINE, OPENING, SHARE};
 
 pub fn add(vectors: &mut Vectors, all: &Posted) {
     out_of_order(vectors, all);
@@ -34,10 +34,11 @@ fn out_of_order(vectors: &mut Vectors, all: &Posted) {
     }
 }
 
-/// Records of no known kind before the others, behind them, and in place of one of each kind.
+/// Records of no known kind, and added shares of a dealer, before the others, behind them, and in place of one of each kind.
+/// In place of a key an added share has no dealer, but it stands before the lines.
 fn unknown(vectors: &mut Vectors, all: &Posted) {
     let count = all.records.len();
-    for kind in [0, 5, 9, 256, 0x0100_0000, 0x0200_0002, u32::MAX] {
+    for kind in [0, ADDED, 9, 256, 0x0100_0000, 0x0200_0002, u32::MAX] {
         for k in [0, count] {
             let mut board = all.clone();
             board.records.insert(k, [kind, 1, 1, 4, 0, 0, 0, 0]);
@@ -46,7 +47,8 @@ fn unknown(vectors: &mut Vectors, all: &Posted) {
         for (known, dealer, member) in [(KEY, 0, 3), (LINE, 1, 1), (OPENING, 3, 0), (SHARE, 3, 3)] {
             let mut board = all.clone();
             board.change(all.at(known, dealer, member), 0, |_| kind);
-            assert_eq!(refused_by(&board.add(vectors)), Some(4));
+            let number = if (kind, known) == (ADDED, KEY) { 5 } else { 4 };
+            assert_eq!(refused_by(&board.add(vectors)), Some(number));
         }
     }
 }

@@ -6,7 +6,7 @@ use crate::draw::set_record;
 use crate::modular::value_at;
 use crate::numbers::Numbers;
 use crate::posting::Members;
-use crate::record::{self, Record, KEY, LINE, OPENING, SHARE};
+use crate::record::{self, Record, ADDED, KEY, LINE, OPENING, SHARE};
 use crate::round::Figures;
 
 /// The bytes of a round's set, the board's records, and bytes behind these.
@@ -49,6 +49,29 @@ impl Posted {
             records.push(opening);
         }
         let mut posted = Posted::of(members.figures, records);
+        posted.sort();
+        posted
+    }
+
+    /// Everyone's added share over the dealings of some dealers, from the lines that are posted.
+    pub fn added_of(
+        &self,
+        members: &Members,
+        is_in: impl Fn(u32) -> bool,
+        numbers: &mut Numbers,
+    ) -> Vec<Record> {
+        let q = members.round.group.q;
+        let lines = self.records.iter().filter(|r| is_line(r) && is_in(r[1]));
+        let lines: Vec<Record> = lines.copied().collect();
+        let products = (1..).zip(members.products(&lines));
+        let shares = products.map(|(i, y)| members.added(i, y, numbers.below(q)));
+        shares.collect()
+    }
+
+    /// The board with these added shares in the place of its own.
+    pub fn with_added(&self, shares: Vec<Record>) -> Posted {
+        let mut posted = self.without(is_added);
+        posted.records.extend(shares);
         posted.sort();
         posted
     }
@@ -133,4 +156,8 @@ pub fn is_opening(record: &Record) -> bool {
 
 pub fn is_share(record: &Record) -> bool {
     record[0] == SHARE
+}
+
+pub fn is_added(record: &Record) -> bool {
+    record[0] == ADDED
 }

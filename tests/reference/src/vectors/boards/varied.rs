@@ -25,7 +25,7 @@ pub fn add(vectors: &mut Vectors, numbers: &mut Numbers) {
 
 /// Removes a record, or all of one kind and dealer, or a figure of a record becomes that of another. Rarely a record is
 /// moved, or any word of it changed.
-fn change(board: &mut Posted, all: &Posted, numbers: &mut Numbers) {
+pub fn change(board: &mut Posted, all: &Posted, numbers: &mut Numbers) {
     let count = board.records.len() as u32;
     if count == 0 {
         return;

@@ -69,8 +69,10 @@ fn shares_of_the_other_rule() {
                 let is_of = (case.round, case.first) == (round, judged);
                 is_of && case.arguments[0] == number && refusal(case) == Some(10)
             };
-            let mut crossed = answered(10).filter(|case| is_one(case));
-            assert!(crossed.any(|case| share_refused_by(case, round, written).is_none()));
+            for operation in [10, 21] {
+                let mut crossed = answered(operation).filter(|case| is_one(case));
+                assert!(crossed.any(|case| share_refused_by(case, round, written).is_none()));
+            }
         }
     }
 }

@@ -5,7 +5,7 @@ use super::others::words;
 use super::ways::{right, Way, OF_BYTES, OF_ROUNDS};
 use super::*;
 use crate::group::{G, H};
-use crate::message::{dealing_message, first_coefficient, share_message};
+use crate::message::{dealing_message, first_coefficient, share_message, ADDED, OPENED};
 use crate::round::{Figures, Round};
 use crate::sha256::sha256;
 use crate::sharing::degree_product;
@@ -43,8 +43,9 @@ fn of_dealing(case: &Case) -> Challenge {
     }
 }
 
-/// The challenge of a share that is written.
+/// The challenge of a share that is written. An added one has dealer 0.
 fn of_share(case: &Case) -> Challenge {
+    let tag = if case.operation == 20 { ADDED } else { OPENED };
     let (round, [_, _, _, dealer, member, _]) = (round(case), case.arguments);
     let payload = words(case.payload);
     let [encrypted, x, nonce] = [payload[0], payload[1], payload[2]];
@@ -54,7 +55,7 @@ fn of_share(case: &Case) -> Challenge {
     let [a1, a2] = [H, opened].map(|base| round.group.power(base, nonce));
     let hashed = [key, encrypted, opened, a1, a2];
     Challenge {
-        digest: sha256(&share_message(&round, dealer, member, &hashed)),
+        digest: sha256(&share_message(tag, &round, dealer, member, &hashed)),
         written: written[4],
         round,
     }
@@ -83,6 +84,7 @@ fn tell_apart(operation: u32, challenge: fn(&Case) -> Challenge) {
 fn challenges_of_other_ways() {
     tell_apart(7, of_dealing);
     tell_apart(9, of_share);
+    tell_apart(20, of_share);
 }
 
 /// Whether the commitments of a case pass by the check polynomial that a way gives.

@@ -59,7 +59,7 @@ type Answers = BTreeMap<((u32, u32, bool), [u32; 6], &'static [u8]), BTreeMap<u3
 
 fn answers() -> Answers {
     let mut answers = Answers::new();
-    for case in (7..=10).flat_map(answered) {
+    for case in (7..=10).chain([20, 21]).flat_map(answered) {
         let place = (case.operation, case.round, is_new((case.round, case.first)));
         let key = (place, case.arguments, case.payload);
         let of_case = answers.entry(key).or_default();
@@ -77,7 +77,7 @@ fn the_same_rule_by_another_first_round() {
         (5, [0, 6, u32::MAX]),
         (u32::MAX, [1, 0x8000_0000, u32::MAX]),
     ] {
-        for operation in 7..=10 {
+        for operation in (7..=10).chain([20, 21]) {
             let place = (operation, round, is_new((round, firsts[0])));
             let is_one = |of_case: &BTreeMap<u32, &str>| {
                 let [a, b, c] = firsts.map(|first| of_case.get(&first));

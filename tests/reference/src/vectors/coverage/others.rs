@@ -6,6 +6,7 @@ use super::*;
 use crate::dealing::judge_dealing;
 use crate::record::{KEY, LINE, OPENING, SHARE};
 use crate::round::Figures;
+use crate::share::added::judge_added;
 use crate::share::judge_share;
 
 /// A round that something was written for, and another in which it is judged.
@@ -38,8 +39,8 @@ pub fn words(bytes: &[u8]) -> Vec<u32> {
     words.collect()
 }
 
-/// The record of a case of judging a share.
-fn share(case: &Case) -> Record {
+/// The record of a case of judging a share, opened or added.
+pub fn share(case: &Case) -> Record {
     record::read(&case.payload[8..])
 }
 
@@ -58,7 +59,7 @@ pub fn dealing_refused_by(case: &Case, round: u32, first: u32) -> Option<u32> {
     judge_dealing(figures, dealer, &keys, &numbered(lines(case), round)).err()
 }
 
-/// The same of a case of judging a share.
+/// The same of a case of judging a share, opened or added.
 fn share_refused_in(case: &Case, round: u32) -> Option<u32> {
     share_refused_by(case, round, case.first)
 }
@@ -73,7 +74,10 @@ pub fn share_refused_by(case: &Case, round: u32, first: u32) -> Option<u32> {
     let [key, encrypted] = words(&case.payload[..8])[..] else {
         panic!("two figures come before the record");
     };
-    judge_share(figures, dealer, member, key, encrypted, &record).err()
+    match case.operation {
+        21 => judge_added(figures, member, key, encrypted, &record).err(),
+        _ => judge_share(figures, dealer, member, key, encrypted, &record).err(),
+    }
 }
 
 #[test]
@@ -82,8 +86,10 @@ fn written_for_one_round_and_judged_in_another() {
         let is_refused = |case: &&Case| case.round == other && refusal(case) == Some(17);
         let is_old = |case: &Case| lines(case).iter().all(|line| line[7] == round);
         assert!(answered(8).filter(is_refused).any(is_old));
-        let mut shares = answered(10).filter(is_refused);
-        assert!(shares.any(|case| share(case)[7] == round));
+        for operation in [10, 21] {
+            let mut shares = answered(operation).filter(is_refused);
+            assert!(shares.any(|case| share(case)[7] == round));
+        }
         let refused = texts().iter().filter(|files| files.text == "refused 17\n");
         let in_other = refused.filter(|files| round_of(files.set) == Some(other));
         let boards: Vec<Vec<Record>> = in_other.map(|files| records(&files.board)).collect();
@@ -120,7 +126,10 @@ fn the_number_is_hashed() {
             let is_right = case.round == other && share(case)[7] == other;
             is_right && refusal(case) == Some(10) && share_refused_in(case, round).is_none()
         };
-        assert!(answered(10).any(|case| case.payload.len() == 8 + SIZE && is_one(case)));
+        for operation in [10, 21] {
+            let mut shares = answered(operation).filter(|case| case.payload.len() == 8 + SIZE);
+            assert!(shares.any(is_one));
+        }
     }
     for (round, other) in [(0, 1), (1, 0), (u32::MAX, 1)] {
         assert!(found.contains(&(round, other, 2, 31, 9)));
@@ -180,6 +189,7 @@ fn other_faults() {
         let is_one = |case: &&Case| case.round != 0 && is_new((case.round, case.first)) == is_whole;
         lines_with_other_faults(answered(8).filter(is_one));
         shares_with_other_faults(answered(10).filter(is_one));
+        shares_with_other_faults(answered(21).filter(is_one));
     }
 }
 

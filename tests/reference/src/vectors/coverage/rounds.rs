@@ -15,7 +15,7 @@ pub fn round_of(set: &[u8]) -> Option<u32> {
 /// The numbers of a set that is no record are among those of round 0.
 #[test]
 fn every_number_in_another_round() {
-    for operation in [3, 4, 5, 7, 8, 9, 10, 11] {
+    for operation in [3, 4, 5, 7, 8, 9, 10, 11, 20, 21] {
         let of_it = answered(operation);
         has_every_number(operation, of_it.filter(|case| case.round != 0));
     }
@@ -42,7 +42,7 @@ fn written_and_accepted() {
                 let is_of = case.round == round && case.arguments[..3] == [number, n, t];
                 is_of && refusal(case).is_none()
             };
-            for (writer, judge) in [(7, 8), (9, 10)] {
+            for (writer, judge) in [(7, 8), (9, 10), (20, 21)] {
                 let case = answered(writer).find(is_one).unwrap();
                 let (_, written) = case.answer.split_once(' ').unwrap();
                 let mut records = (0..written.len()).step_by(2 * SIZE);

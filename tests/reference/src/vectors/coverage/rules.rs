@@ -44,7 +44,7 @@ pub fn with_word(set: &[u8], word: usize, to: u32) -> Vec<u8> {
 
 #[test]
 fn every_number_under_the_new_rule() {
-    for operation in 7..=11 {
+    for operation in (7..=11).chain([20, 21]) {
         let is_one = |case: &&Case| is_new((case.round, case.first));
         has_every_number(operation, answered(operation).filter(is_one));
     }
@@ -64,7 +64,7 @@ fn written_and_accepted_at_the_border() {
                 let is_of = (case.round, case.first) == (round, first);
                 is_of && case.arguments[..3] == [number, n, t] && refusal(case).is_none()
             };
-            for (writer, judge) in [(7, 8), (9, 10)] {
+            for (writer, judge) in [(7, 8), (9, 10), (20, 21)] {
                 assert!(answered(writer).any(|case| is_one(&case)));
                 assert!(answered(judge).any(|case| is_one(&case)));
             }

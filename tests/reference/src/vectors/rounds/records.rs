@@ -31,7 +31,7 @@ pub fn add(vectors: &mut Vectors, numbers: &mut Numbers) {
 }
 
 /// Adds both cases of a board that is refused by a number.
-fn refused(vectors: &mut Vectors, figures: Figures, posted: Posted, number: u32) {
+pub fn refused(vectors: &mut Vectors, figures: Figures, posted: Posted, number: u32) {
     assert_eq!(refused_by(&posted.add(vectors)), Some(number));
     let dealer = 2;
     let lines = Case {

@@ -23,7 +23,7 @@ pub fn add(vectors: &mut Vectors, numbers: &mut Numbers) {
 
 /// Adds a case under the rule by which it is written, which accepts it, and under the other, by which its challenge is
 /// not the right one.
-fn under_both<C: InRound>(vectors: &mut Vectors, mut case: C, [written, judged]: [Figures; 2]) {
+pub fn under_both<C: InRound>(vectors: &mut Vectors, mut case: C, [written, judged]: [Figures; 2]) {
     *case.figures() = written;
     assert_eq!(case.add(vectors), None);
     *case.figures() = judged;

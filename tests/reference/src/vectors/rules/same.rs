@@ -10,7 +10,7 @@ use crate::numbers::Numbers;
 use crate::round::Figures;
 
 /// A round and first rounds of one rule in it: of the new one, of the old one, and of the new one in the last round.
-const SAME: [(u32, [u32; 3]); 3] = [
+pub const SAME: [(u32, [u32; 3]); 3] = [
     (5, [1, 2, 5]),
     (5, [0, 6, u32::MAX]),
     (u32::MAX, [1, 0x8000_0000, u32::MAX]),

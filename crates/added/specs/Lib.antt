@@ -1,0 +1,2 @@
+-- What is claimed of the records of kind 5.
+pub mod Claims

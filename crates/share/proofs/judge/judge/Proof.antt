@@ -1,0 +1,40 @@
+-- `judge` meets its contract: a refusal of the round is handed on, and else its setting answers.
+use mathlib.Core.Path.{_∙_}
+use borrow.Author.Needs.{needs}
+use Rattle.sharing.proofs.Rounds.{judged-refused, judged-value, setting-proper}
+use Rattle.share.specs.Share.{judgeShareIn, judgeShareOutcome}
+use Rattle.share.proofs.judge.judge.Statement.{statement}
+use Rattle.share.proofs.judge.judge.Tie as tie
+
+setting-of-requires : tie.Need-setting-of-requires
+setting-of-requires c κs = search needs
+
+enum-known-k : tie.Need-enum-known-k
+enum-known-k c = search needs
+
+enum-known-s : tie.Need-enum-known-s
+enum-known-s c = search needs
+
+judge-in-requires : tie.Need-judge-in-requires
+judge-in-requires c κs = setting-proper _ (c .before .before .before .setting-of .ensures) (c .before .s .given .1)
+
+returns : tie.Need-returns
+unfolding judgeShareOutcome
+returns c = judged-refused _ _ _ (c .before .before .before .setting-of .ensures) (c .before .k .given .1)
+
+returns-2 : tie.Need-returns-2
+unfolding judgeShareOutcome judgeShareIn
+returns-2 c =
+    let g = c .before .before in
+    c .judge-in .ensures ∙ judged-value _ _ _ (g .before .before .setting-of .ensures) (g .s .given .1)
+
+pub judge-spec : {M : Type 1} → statement M
+judge-spec =
+    tie.close
+    (tie.spec
+    setting-of-requires
+    enum-known-k
+    enum-known-s
+    judge-in-requires
+    returns
+    returns-2)

@@ -1,0 +1,2 @@
+-- Proofs of what specs/Claims.antt states.
+pub mod Sums
