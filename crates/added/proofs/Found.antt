@@ -12,16 +12,17 @@ use lib.ListN.{length, take, drop}
 use lib.Dec.{leb, eqb}
 use Rattle.words.specs.Choice.{pick}
 use Rattle.words.specs.Checks.{Met}
+use Rattle.words.specs.Bytes.{recordsIn, recordAt}
 use Rattle.words.specs.declared.Record.{Record}
 use Rattle.words.proofs.Lists.{map-same}
 use Rattle.words.proofs.Stages.{both-met}
 use Rattle.words.proofs.Tests.{false-true, true-and}
 use Rattle.sharing.specs.Setting.{members}
 use Rattle.sharing.specs.declared.Setting.{Setting}
-use Rattle.records.specs.Layout.{keyKind, lineKind, addedKind, dealerOf, memberOf, yOf, isOfRound, recordAt}
+use Rattle.records.specs.Layout.{keyKind, lineKind, addedKind, dealerOf, memberOf, yOf, isOfRound}
 use Rattle.records.specs.Keys.{keyChecks}
 use Rattle.records.proofs.Members.{members-exactly, each-members}
-use Rattle.board.specs.Search.{first, recordsIn}
+use Rattle.board.specs.Search.{first}
 use Rattle.board.specs.Board.{isShaped, isBelow, isAbove, inOrder, oneRecordChecks, recordChecks, formChecks, placeOf, isAt, recordBy}
 use Rattle.board.specs.Board.{keyPlace, hasKey, keyIn, keysIn, boardKeyChecks, boardChecks, linesStart, linesEnd, lineCount, linesOf}
 use Rattle.board.proofs.Searches.{first-passes, first-low}

@@ -9,13 +9,12 @@ use borrow.Author.Tests.{lt-ltb, le-ltb}
 use lib.ListN.{length, take, drop}
 use lib.Seq.{length-take-le}
 use Rattle.words.specs.Checks.{Met}
-use Rattle.words.specs.Bytes.{recordIn}
+use Rattle.words.specs.Bytes.{recordIn, recordsIn, recordAt}
 use Rattle.words.specs.declared.Record.{Record}
 use Rattle.words.proofs.Lists.{part-part}
 use Rattle.words.proofs.Tests.{false-true}
 use Rattle.sharing.specs.declared.Setting.{Setting}
-use Rattle.records.specs.Layout.{shareKind, addedKind, recordAt}
-use Rattle.board.specs.Search.{recordsIn}
+use Rattle.records.specs.Layout.{shareKind, addedKind}
 use Rattle.board.specs.Board.{formChecks, placeOf}
 use Rattle.board.proofs.Order.{Below, by-kind, by-dealer, by-member, below-true, true-below, shapes, sorted}
 use Rattle.board.proofs.Places.{place-within, placed}

@@ -13,6 +13,7 @@ use lib.Dec.{leb, ltb, eqb}
 use Rattle.words.specs.Choice.{pick}
 use Rattle.words.specs.Lists.{All, map, upFrom}
 use Rattle.words.specs.Checks.{_unless_, Outcome, outcome, isValue, Met}
+use Rattle.words.specs.Bytes.{recordsIn, recordAt}
 use Rattle.words.specs.declared.Record.{Record}
 use Rattle.words.proofs.Lists.{All-to, All-take, map-same, up-within}
 use Rattle.words.proofs.Tests.{pick-false}
@@ -21,10 +22,10 @@ use Rattle.group.specs.declared.Element.{Element}
 use Rattle.sharing.specs.Setting.{members}
 use Rattle.sharing.specs.Answer.{recovered, openingIn}
 use Rattle.sharing.specs.declared.Setting.{Setting}
-use Rattle.records.specs.Layout.{openingKind, shareKind, dealerOf, memberOf, uOf, ZOf, entry, recordAt}
+use Rattle.records.specs.Layout.{openingKind, shareKind, dealerOf, memberOf, uOf, ZOf, entry}
 use Rattle.dealing.specs.Dealing.{vsIn, YIn}
 use Rattle.share.specs.Share.{openedForm}
-use Rattle.board.specs.Search.{filter, recordsIn}
+use Rattle.board.specs.Search.{filter}
 use Rattle.board.specs.Board.{keyIn, boardChecks, openingPlace}
 use Rattle.board.proofs.Searches.{filter-up, filter-same, filter-run}
 use Rattle.board.proofs.Order.{reached, shapes}

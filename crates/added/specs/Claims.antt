@@ -6,11 +6,11 @@ use mathlib.Core.Logic.{_⊎_}
 use Prim.Native.Nat.{ℕ, _*_, _<_, _≤_}
 use lib.ListN.{length, take}
 use Rattle.words.specs.Checks.{value, refused, Met}
+use Rattle.words.specs.Bytes.{recordsIn, recordAt}
 use Rattle.group.specs.declared.Element.{Element}
 use Rattle.sharing.specs.Setting.{ProperSetting}
 use Rattle.sharing.specs.declared.Setting.{Setting}
-use Rattle.records.specs.Layout.{addedKind, recordAt}
-use Rattle.board.specs.Search.{recordsIn}
+use Rattle.records.specs.Layout.{addedKind}
 use Rattle.board.specs.Board.{formChecks, placeOf, boardChecks}
 use Rattle.verdicts.specs.Shares.{Judges}
 use Rattle.verdicts.specs.Verdict.{isAccepted, verdictOn, verdictsOn}

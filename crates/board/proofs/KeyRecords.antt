@@ -2,12 +2,12 @@
 use mathlib.Core.Path.{sym, _∙_}
 use native.Mathlib.Omega.{arith}
 use borrow.Author.Tests.{ltb-true}
+use Rattle.words.specs.Bytes.{recordsIn, recordAt}
 use Rattle.words.proofs.Tests.{all-map}
 use Rattle.sharing.specs.Setting.{members}
-use Rattle.records.specs.Layout.{keyKind, recordAt}
+use Rattle.records.specs.Layout.{keyKind}
 use Rattle.records.specs.Keys.{isKey, keyChecks}
 use Rattle.records.proofs.Members.{members-exactly}
-use Rattle.board.specs.Search.{recordsIn}
 use Rattle.board.specs.Board.{keyPlace, hasKey, keyIn}
 use Rattle.board.specs.Claims.{KeysExact}
 use Rattle.board.proofs.Order.{reached, shapes, sorted}

@@ -6,13 +6,12 @@ use native.Mathlib.Omega.{arith}
 use lib.ListN.{length, take, drop, length-drop}
 use lib.Seq.{length-take-le, drop-drop}
 use Rattle.words.specs.Checks.{Met}
-use Rattle.words.specs.Bytes.{recordIn}
+use Rattle.words.specs.Bytes.{recordIn, recordsIn, recordAt}
 use Rattle.words.specs.declared.Record.{Record}
 use Rattle.words.proofs.Lists.{part-part}
 use Rattle.sharing.specs.Setting.{ProperSetting}
 use Rattle.sharing.specs.declared.Setting.{Setting}
-use Rattle.records.specs.Layout.{lineKind, dealerOf, memberOf, roundOf, recordAt}
-use Rattle.board.specs.Search.{recordsIn}
+use Rattle.records.specs.Layout.{lineKind, dealerOf, memberOf, roundOf}
 use Rattle.board.specs.Board.{formChecks, linesStart, linesEnd, lineCount, linesOf}
 use Rattle.board.specs.Sorted.{Sorted}
 use Rattle.board.specs.Claims.{ExactLines, LinesExact}

@@ -4,11 +4,11 @@ use mathlib.Core.List.{List}
 use Prim.Native.Nat.{ℕ, zero, suc, _<_}
 use native.Mathlib.Omega.{arith}
 use Rattle.words.specs.Checks.{Check, Met, Numbered, refusal}
+use Rattle.words.specs.Bytes.{recordsIn}
 use Rattle.words.proofs.Lists.{All-append}
 use Rattle.words.proofs.Checks.{none-exactly}
 use Rattle.sharing.specs.declared.Setting.{Setting}
 use Rattle.records.specs.Keys.{keyChecks}
-use Rattle.board.specs.Search.{recordsIn}
 use Rattle.board.specs.Board.{recordChecks, formChecks, boardKeyChecks, boardChecks, linesChecks}
 
 module _ (S : Setting) (b : List ℕ) where

@@ -13,16 +13,16 @@ use lib.Dec.{ltb, eqb}
 use Rattle.words.specs.Choice.{pick}
 use Rattle.words.specs.Lists.{all}
 use Rattle.words.specs.Checks.{Met, FirstUnmet}
+use Rattle.words.specs.Bytes.{recordsIn, recordAt, agrees}
 use Rattle.words.specs.declared.Record.{Record}
 use Rattle.words.proofs.Stages.{met-both, rest-first}
 use Rattle.words.proofs.Tests.{false-true, and-true, pick-false}
 use Rattle.sharing.specs.Setting.{isMember, members}
 use Rattle.sharing.specs.declared.Setting.{Setting}
 use Rattle.records.specs.Layout.{keyKind, lineKind, openingKind, shareKind, addedKind, dealerOf, memberOf, roundOf}
-use Rattle.records.specs.Layout.{agrees, isKeyRecord, isLineRecord, isOpeningRecord, isShareRecord, recordAt}
+use Rattle.records.specs.Layout.{isKeyRecord, isLineRecord, isOpeningRecord, isShareRecord}
 use Rattle.records.specs.Keys.{keyChecks}
 use Rattle.records.proofs.Members.{member-exactly}
-use Rattle.board.specs.Search.{recordsIn}
 use Rattle.board.specs.Board.{isShaped, isBelow, isAbove, oneRecordChecks, recordChecks, lengthChecks, formChecks, hasKey, keysIn, boardKeyChecks, boardChecks}
 use Rattle.board.specs.Sorted.{Sorted}
 use Rattle.board.specs.Claims.{RecordsOfRound, BoardOfOtherRound}

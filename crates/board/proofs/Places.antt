@@ -10,10 +10,9 @@ use native.Mathlib.Decide.{decLe}
 use native.Mathlib.Omega.{arith}
 use borrow.Author.Tests.{ltb-true, ltb-false, lt-ltb, le-ltb, eqb-true, eq-eqb, not-true, not-false}
 use lib.Dec.{ltb, eqb}
+use Rattle.words.specs.Bytes.{recordsIn, recordAt}
 use Rattle.words.specs.declared.Record.{Record}
 use Rattle.words.proofs.Tests.{false-true, and-true, true-and, equal-true, true-equal}
-use Rattle.records.specs.Layout.{recordAt}
-use Rattle.board.specs.Search.{recordsIn}
 use Rattle.board.specs.Board.{isBelow, placeOf, isAt, recordBy}
 use Rattle.board.specs.Sorted.{Sorted}
 use Rattle.board.proofs.Searches.{First, first-passes, first-low}

@@ -8,10 +8,11 @@ use borrow.Author.Tests.{eq-eqb, ne-eqb}
 use lib.Dec.{eqb}
 use Rattle.words.specs.Choice.{pick}
 use Rattle.words.specs.Checks.{refusal}
+use Rattle.words.specs.Bytes.{recordAt}
 use Rattle.words.specs.declared.Record.{Record}
 use Rattle.words.proofs.Tests.{pick-true, pick-false}
 use Rattle.sharing.specs.declared.Setting.{Setting}
-use Rattle.records.specs.Layout.{isOfRound, recordAt}
+use Rattle.records.specs.Layout.{isOfRound}
 use Rattle.board.specs.Board.{isShaped, isAbove, inOrder, recordChecks}
 
 -- ---- counting up to n

@@ -7,14 +7,15 @@ use lib.Dec.{leb, ltb, eqb}
 use Rattle.words.specs.Choice.{pick}
 use Rattle.words.specs.Lists.{map, all}
 use Rattle.words.specs.Checks.{Check, _unless_, Outcome}
+use Rattle.words.specs.Bytes.{recordsIn, recordAt}
 use Rattle.words.specs.declared.Record.{Record}
 use Rattle.sharing.specs.Setting.{judged, judgedElse, isMember, members}
 use Rattle.sharing.specs.declared.Round.{Round}
 use Rattle.sharing.specs.declared.Setting.{Setting}
 use Rattle.records.specs.Layout.{keyKind, lineKind, openingKind, shareKind, addedKind, dealerOf, memberOf, yOf}
-use Rattle.records.specs.Layout.{isKeyRecord, isLineRecord, isOpeningRecord, isShareRecord, isOfRound, recordAt}
+use Rattle.records.specs.Layout.{isKeyRecord, isLineRecord, isOpeningRecord, isShareRecord, isOfRound}
 use Rattle.records.specs.Keys.{keyChecks}
-use Rattle.board.specs.Search.{first, recordsIn}
+use Rattle.board.specs.Search.{first}
 
 -- ---- form and order
 -- a record of the table: its kind known, its dealer and member in range or 0 as the table has it, its spare words zero
@@ -115,16 +116,16 @@ unfoldable pub linesChecks : Setting → ℕ → List ℕ → List Check
 linesChecks S d b = 8 unless isMember (S .n) d ∷ formChecks S b
 
 -- whether his lines can be told
-unfoldable pub linesOutcome : Round → ℕ → List ℕ → Outcome (Unit {0})
-linesOutcome R d b = judged R (λ S. linesChecks S d b) (λ S. tt)
+unfoldable pub linesOutcome : List ℕ → Round → ℕ → List ℕ → Outcome (Unit {0})
+linesOutcome T R d b = judged T R (λ S. linesChecks S d b) (λ S. tt)
 
 -- the part that is handed back: empty where a check refuses
-unfoldable pub linesPart : Round → ℕ → List ℕ → List ℕ
-linesPart R d b = judgedElse R (λ S. linesChecks S d b) (λ S. linesOf b d) []
+unfoldable pub linesPart : List ℕ → Round → ℕ → List ℕ → List ℕ
+linesPart T R d b = judgedElse T R (λ S. linesChecks S d b) (λ S. linesOf b d) []
 
 -- how many bytes behind the board's start that part begins: where his lines do or would, at the start itself where the number is refused
-unfoldable pub linesAt : Round → ℕ → List ℕ → ℕ
-linesAt R d b = judgedElse R (λ S. linesChecks S d b) (λ S. 32 * linesStart b d) 0
+unfoldable pub linesAt : List ℕ → Round → ℕ → List ℕ → ℕ
+linesAt T R d b = judgedElse T R (λ S. linesChecks S d b) (λ S. 32 * linesStart b d) 0
 
 -- the place so many bytes behind a place in memory, which is a block and an offset in it
 abbrev pub behind : ℕ → ℕ × ℕ → ℕ × ℕ

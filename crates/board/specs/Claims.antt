@@ -5,11 +5,11 @@ use mathlib.Core.List.{List, _++_}
 use Prim.Native.Nat.{ℕ, _+_, _*_, _<_, _≤_}
 use lib.ListN.{length}
 use Rattle.words.specs.Checks.{Met, FirstUnmet}
+use Rattle.words.specs.Bytes.{recordsIn, recordAt}
 use Rattle.sharing.specs.Setting.{ProperSetting}
 use Rattle.sharing.specs.declared.Setting.{Setting}
-use Rattle.records.specs.Layout.{keyKind, lineKind, dealerOf, memberOf, roundOf, recordAt, recordOf}
+use Rattle.records.specs.Layout.{keyKind, lineKind, dealerOf, memberOf, roundOf, recordOf}
 use Rattle.records.specs.Keys.{isKey}
-use Rattle.board.specs.Search.{recordsIn}
 use Rattle.board.specs.Board.{isShaped, recordChecks, lengthChecks, formChecks, boardChecks, keyPlace, keyIn, linesStart, linesEnd, lineCount, linesOf}
 
 -- ---- keys

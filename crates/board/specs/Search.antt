@@ -1,8 +1,7 @@
 -- Searches over the records of a board.
 use mathlib.Core.Bool.{Bool}
 use mathlib.Core.List.{List, [], _∷_}
-use Prim.Native.Nat.{ℕ, zero, suc, _<_, _/_}
-use lib.ListN.{length}
+use Prim.Native.Nat.{ℕ, zero, suc, _<_}
 use Rattle.words.specs.Choice.{pick}
 use Rattle.words.specs.Lists.{Pairwise}
 
@@ -19,7 +18,3 @@ filter f (x ∷ xs) = pick (f x) (x ∷ filter f xs) (filter f xs)
 -- each number is below all that follow it
 abbrev pub Ascending : List ℕ → Type 0
 Ascending xs = Pairwise (λ x y. x < y) xs
-
--- the number of records
-abbrev pub recordsIn : List ℕ → ℕ
-recordsIn b = length b / 32

@@ -3,8 +3,7 @@ use mathlib.Core.Path.{_≡_}
 use mathlib.Core.Bool.{true}
 use mathlib.Core.List.{List}
 use Prim.Native.Nat.{ℕ, _<_}
-use Rattle.records.specs.Layout.{recordAt}
-use Rattle.board.specs.Search.{recordsIn}
+use Rattle.words.specs.Bytes.{recordsIn, recordAt}
 use Rattle.board.specs.Board.{isAbove}
 
 -- every record is above those before it

@@ -1,7 +1,7 @@
 // The form and order of a board's records, refused record by record.
 ghost use mathlib.Core.Path.{_≡_};
 ghost use Rattle.words.specs.Checks.{refusal};
-ghost use Rattle.board.specs.Search.{recordsIn};
+ghost use Rattle.words.specs.Bytes.{recordsIn};
 ghost use Rattle.board.specs.Board.{isShaped, isBelow, recordChecks, formChecks};
 use crate::search::records;
 use records::ADDED;
@@ -11,10 +11,10 @@ use records::is_line_record;
 use records::is_of_round;
 use records::is_opening_record;
 use records::is_share_record;
-use records::record_at;
 use sharing::Setting;
 use sharing::is_member;
 use words::Record;
+use words::record_at;
 
 // Whether r is a record of the table, for n members; its round is tested apart.
 fn is_shaped(n: u32, r: Record) -> bool

@@ -11,8 +11,8 @@ use crate::form::form_refusal;
 use crate::search::find_key;
 use crate::search::records;
 use records::keys_refusal;
-use records::record_at;
 use sharing::Setting;
+use words::record_at;
 
 // Whether each member has a key record.
 // Internal: callers ensure that the records ascend.

@@ -38,11 +38,11 @@ fn lines_refusal(s: Setting, d: u32, b: &[u8]) -> u32
     form_refusal(s, b)
 }
 
-// Whether the lines of dealer d can be told. Refused: 1 and 2 as setting_of; 8 d is no member; 3, 4, 17 and 5 the board's form.
-pub fn lines_check(rd: Round, d: u32, b: &[u8]) -> CheckAnswer
-    ensures { λ r. ⌜ checkOutcomeOf r ≡ linesOutcome rd d (now (b .entry)) ⌝ }
+// Whether the lines of dealer d can be told. Refused: as setting_of; 8 d is no member; 3, 4, 17 and 5 the board's form.
+pub fn lines_check(table: &[u8], rd: Round, d: u32, b: &[u8]) -> CheckAnswer
+    ensures { λ r. ⌜ checkOutcomeOf r ≡ linesOutcome (now (table .entry)) rd d (now (b .entry)) ⌝ }
 {
-    match setting_of(rd) {
+    match setting_of(table, rd) {
         SettingAnswer::Refused(k) => CheckAnswer::Refused(k),
         SettingAnswer::Value(s) => {
             let k = lines_refusal(s, d, b);
@@ -55,11 +55,11 @@ pub fn lines_check(rd: Round, d: u32, b: &[u8]) -> CheckAnswer
 }
 
 // The lines of dealer d: the part of the caller's board that holds them, empty where lines_check refuses.
-pub fn dealer_lines(rd: Round, d: u32, b: &[u8]) -> &[u8]
-    ensures { λ r. ⌜ now r ≡ linesPart rd d (now (b .entry)) ⌝ }
-    ensures { λ r. ⌜ ptr r ≡ behind (linesAt rd d (now (b .entry))) (ptr (b .entry)) ⌝ }
+pub fn dealer_lines<'a>(table: &[u8], rd: Round, d: u32, b: &'a [u8]) -> &'a [u8]
+    ensures { λ r. ⌜ now r ≡ linesPart (now (table .entry)) rd d (now (b .entry)) ⌝ }
+    ensures { λ r. ⌜ ptr r ≡ behind (linesAt (now (table .entry)) rd d (now (b .entry))) (ptr (b .entry)) ⌝ }
 {
-    match lines_check(rd, d, b) {
+    match lines_check(table, rd, d, b) {
         CheckAnswer::Refused(_) => &b[0..0],
         CheckAnswer::Passed => lines_of(b, d),
     }

@@ -1,13 +1,13 @@
 // Searches over the records of a board that ascend: places are found by bisection.
 ghost use mathlib.Core.Path.{_≡_};
-ghost use Rattle.board.specs.Search.{recordsIn};
+ghost use Rattle.words.specs.Bytes.{recordsIn};
 ghost use Rattle.board.specs.Board.{placeOf, isAt, recordBy, keyPlace, openingPlace};
 ghost use Rattle.board.specs.Sorted.{Sorted};
 use crate::form::is_below;
 use records::KEY;
 use records::OPENING;
-use records::record_at;
 use words::Record;
+use words::record_at;
 
 // The number of records.
 pub fn records(b: &[u8]) -> usize

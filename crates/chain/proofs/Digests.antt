@@ -10,13 +10,14 @@ use native.Mathlib.Omega.{arith}
 use lib.ListN.{take, drop}
 use lib.Seq.{take-at, drop-at}
 use Rattle.words.specs.Lists.{Below}
-use Rattle.words.specs.Bytes.{wordAt, wordBytes, wordsBytes, recordWords, recordBytes, recordIn}
+use Rattle.words.specs.Checks.{Met}
+use Rattle.words.specs.Bytes.{wordAt, wordBytes, wordsBytes, recordWords, recordBytes, recordIn, agrees}
 use Rattle.words.specs.declared.Record.{Record}
 use Rattle.words.proofs.Tests.{false-true, and-true, true-and, equal-true, true-equal, pick-true, pick-false}
+use Rattle.words.proofs.Records.{agrees-exactly}
 use Rattle.words.proofs.Bytes.{record-length, word-append, word-back, read-back}
 use Rattle.sha256.specs.Hash.{hash}
-use Rattle.records.specs.Layout.{agrees}
-use Rattle.records.proofs.Layouts.{agrees-exactly}
+use Rattle.group.specs.Table.{groupsOf, tableChecks}
 use Rattle.chain.specs.Link.{linkMessage}
 use Rattle.chain.specs.Chain.{linksIn, digestAt, digestAfter}
 use Rattle.chain.specs.Claims.{IsChain, roundAt, valueAt, messageAt, SameDraws, Collision, hashAlike, lastApart, CollisionAt, KeptDigest, LastDigests, OneRound}
@@ -56,14 +57,14 @@ module _ (b : List ℕ) (i : ℕ) (c : List ℕ) (j : ℕ) (e : messageAt b i �
 abbrev SameDraw : List ℕ → List ℕ → ℕ → Type 0
 SameDraw b c i = (roundAt b i ≡ roundAt c i) × (valueAt b i ≡ valueAt c i)
 
-module _ (b c : List ℕ) (B : IsChain b) (C : IsChain c) where
+module _ (T T' b c : List ℕ) (t : Met (tableChecks T)) (t' : Met (tableChecks T')) (B : IsChain (groupsOf T) b) (C : IsChain (groupsOf T') c) where
   -- links that hash the same message hash the same figures
   alike : (i : ℕ) → i < linksIn b → i < linksIn c → messageAt b i ≡ messageAt c i → hashAlike b c i ≡ true
   alike i h l e =
       let r = B .links i h in
       let s = C .links i l in
-      let before = before-same b i c i e (digest-words b B i (omega arith)) (digest-words c C i (omega arith)) in
-      let v = value-same b i c i e (value-word _ (valueAt b i) (r .drawn)) (value-word _ (valueAt c i) (s .drawn)) in
+      let before = before-same b i c i e (digest-words (groupsOf T) b B i (omega arith)) (digest-words (groupsOf T') c C i (omega arith)) in
+      let v = value-same b i c i e (value-word T t _ (valueAt b i) (r .drawn)) (value-word T' t' _ (valueAt c i) (s .drawn)) in
       true-and _ _ (agrees-exactly (digestAfter b i) (digestAfter c i) .1 before)
       (true-equal (valueAt b i) (valueAt c i) (roundAt b i) (roundAt c i) v (r .next ∙ sym (s .next)))
 
@@ -111,15 +112,18 @@ module _ (b c : List ℕ) (B : IsChain b) (C : IsChain c) where
 
 -- ---- the claims
 pub kept-digest : KeptDigest
-kept-digest b c e f = kept b c (accepted-exactly b .0 e) (accepted-exactly c .0 f)
+kept-digest T T' b c e f =
+    let B = accepted-exactly T b .0 e in
+    let C = accepted-exactly T' c .0 f in
+    kept T T' b c (B .0) (C .0) (B .1) (C .1)
 
 pub last-digests : LastDigests
-last-digests b c e f l d =
+last-digests T T' b c e f l d =
     let size : linksIn c ≡ linksIn b = omega (arith, l) in
-    kept-digest b c e f (linksIn b) (omega arith) (omega (arith, size)) (d ∙ ap (digestAfter c) size)
+    kept-digest T T' b c e f (linksIn b) (omega arith) (omega (arith, size)) (d ∙ ap (digestAfter c) size)
 
 pub one-round : OneRound
-one-round b c e f i j h l n d =
-    let B = accepted-exactly b .0 e in
-    let C = accepted-exactly c .0 f in
-    collision b c B C i j h l d (rounds-apart b c B C i j h l n)
+one-round T T' b c e f i j h l n d =
+    let B = accepted-exactly T b .0 e in
+    let C = accepted-exactly T' c .0 f in
+    collision T T' b c (B .0) (C .0) (B .1) (C .1) i j h l d (rounds-apart T T' b c (B .0) (C .0) (B .1) (C .1) i j h l n)

@@ -2,6 +2,7 @@
 pub mod Written
 pub mod Steps
 pub mod Accepted
+pub mod Groups
 pub mod Extended
 pub mod Digests
 pub mod Example

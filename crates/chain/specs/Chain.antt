@@ -5,9 +5,10 @@ use Prim.Native.Nat.{ℕ, zero, suc, _+_, _*_, _/_, _%_}
 use lib.Dec.{leb, ltb, eqb}
 use lib.ListN.{length}
 use Rattle.words.specs.Checks.{Check, _unless_, Outcome, outcome, ifMet}
-use Rattle.words.specs.Bytes.{recordBytes}
+use Rattle.words.specs.Bytes.{recordBytes, recordAt}
 use Rattle.words.specs.declared.Record.{Record}
-use Rattle.records.specs.Layout.{recordAt}
+use Rattle.group.specs.Table.{groupsOf, tableChecks}
+use Rattle.group.specs.declared.Group.{Group}
 use Rattle.chain.specs.Link.{linkLayout, noDigest, linkDigest, valueChecks, linkChecks}
 
 -- ---- links by number, from 0
@@ -27,16 +28,20 @@ digestAfter b (suc i) = digestAt b i
 
 -- ---- judging
 -- link by link, for m links from the link i on, whose round is i + 1
-abbrev pub linksChecks : List ℕ → ℕ → ℕ → List Check
-linksChecks b i zero = []
-linksChecks b i (suc m) = linkChecks (digestAfter b i) (suc i) (figuresAt b i) (digestAt b i) ++ linksChecks b (suc i) m
+abbrev pub linksChecks : List Group → List ℕ → ℕ → ℕ → List Check
+linksChecks Gs b i zero = []
+linksChecks Gs b i (suc m) = linkChecks Gs (digestAfter b i) (suc i) (figuresAt b i) (digestAt b i) ++ linksChecks Gs b (suc i) m
 
--- whole links, at most 1,024, and each of them
-unfoldable pub chainChecks : List ℕ → List Check
-chainChecks b = 3 unless (eqb (length b % 64) 0 && leb (linksIn b) 1024) ∷ linksChecks b 0 (linksIn b)
+-- whole links, at most 1,024, and each of them, among the groups of an accepted table
+unfoldable pub linkedChecks : List Group → List ℕ → List Check
+linkedChecks Gs b = 3 unless (eqb (length b % 64) 0 && leb (linksIn b) 1024) ∷ linksChecks Gs b 0 (linksIn b)
 
-unfoldable pub chainOutcome : List ℕ → Outcome (Unit {0})
-chainOutcome b = outcome (chainChecks b) tt
+-- the table T comes first
+unfoldable pub chainChecks : List ℕ → List ℕ → List Check
+chainChecks T b = tableChecks T ++ linkedChecks (groupsOf T) b
+
+unfoldable pub chainOutcome : List ℕ → List ℕ → Outcome (Unit {0})
+chainOutcome T b = outcome (chainChecks T b) tt
 
 -- ---- extending by the draw value v in the group of that number
 -- the bytes of the next link
@@ -45,16 +50,16 @@ nextLink b number v =
     recordBytes (linkLayout (linksIn b + 1) v number) ++ recordBytes (linkDigest (digestAfter b (linksIn b)) v (linksIn b + 1))
 
 -- what is asked beside the chain: that it is not full, room for one link, and a draw value of the group
-abbrev pub nextChecks : List ℕ → ℕ → ℕ → ℕ → List Check
-nextChecks b number v room = 3 unless (ltb (linksIn b) 1024 && eqb room 64) ∷ valueChecks number v
+abbrev pub nextChecks : List Group → List ℕ → ℕ → ℕ → ℕ → List Check
+nextChecks Gs b number v room = 3 unless (ltb (linksIn b) 1024 && eqb room 64) ∷ valueChecks Gs number v
 
--- the chain is judged first
-unfoldable pub extendChecks : List ℕ → ℕ → ℕ → ℕ → List Check
-extendChecks b number v room = chainChecks b ++ nextChecks b number v room
+-- the table and the chain are judged first
+unfoldable pub extendChecks : List ℕ → List ℕ → ℕ → ℕ → ℕ → List Check
+extendChecks T b number v room = chainChecks T b ++ nextChecks (groupsOf T) b number v room
 
-unfoldable pub extendOutcome : List ℕ → ℕ → ℕ → ℕ → Outcome (Unit {0})
-extendOutcome b number v room = outcome (extendChecks b number v room) tt
+unfoldable pub extendOutcome : List ℕ → List ℕ → ℕ → ℕ → ℕ → Outcome (Unit {0})
+extendOutcome T b number v room = outcome (extendChecks T b number v room) tt
 
 -- the lent output afterwards
-unfoldable pub lentLink : List ℕ → ℕ → ℕ → List ℕ → List ℕ
-lentLink b number v out = ifMet (extendChecks b number v (length out)) (nextLink b number v) out
+unfoldable pub lentLink : List ℕ → List ℕ → ℕ → ℕ → List ℕ → List ℕ
+lentLink T b number v out = ifMet (extendChecks T b number v (length out)) (nextLink b number v) out

@@ -7,67 +7,80 @@ use Prim.Native.Nat.{ℕ, zero, suc, _*_, _%_, _≤_, _<_}
 use lib.Dec.{eqb}
 use lib.ListN.{length, take, drop, replicate}
 use Rattle.words.specs.Choice.{pick}
-use Rattle.words.specs.Checks.{value, refused}
+use Rattle.words.specs.Checks.{value, refused, Met}
+use Rattle.words.specs.Bytes.{agrees}
 use Rattle.words.specs.declared.Record.{Record}
 use Rattle.sha256.specs.Hash.{hash}
-use Rattle.group.specs.Table.{isGroup, groupOf}
+use Rattle.group.specs.Table.{groupsOf, tableChecks, isGroup, groupOf}
 use Rattle.group.specs.Element.{isElement}
-use Rattle.records.specs.Layout.{agrees}
+use Rattle.group.specs.declared.Group.{Group}
 use Rattle.chain.specs.Link.{linkLayout, linkRound, linkValue, linkGroup, linkMessage, linkDigest}
 use Rattle.chain.specs.Chain.{linksIn, figuresAt, digestAt, digestAfter, chainOutcome, nextLink, extendOutcome, lentLink}
 
 -- ---- accepted chains
-abbrev pub Accepted : List ℕ → Type 0
-Accepted b = chainOutcome b ≡ value tt
+-- by the table T
+abbrev pub Accepted : List ℕ → List ℕ → Type 0
+Accepted T b = chainOutcome T b ≡ value tt
 
 -- v is an element of the group of that number, which there is
-pub record DrawValue (number v : ℕ) : Type 0 where
-  pub group : isGroup number ≡ true
-  pub element : isElement (groupOf number) v ≡ true
+pub record DrawValue (Gs : List Group) (number v : ℕ) : Type 0 where
+  pub group : isGroup Gs number ≡ true
+  pub element : isElement (groupOf Gs number) v ≡ true
 
 -- a link of this round behind this digest: its spare bytes are 0, its draw value is of its group, and its digest is the one worked out
-pub record IsLink (before : Record) (round : ℕ) (figures digest : Record) : Type 0 where
+pub record IsLink (Gs : List Group) (before : Record) (round : ℕ) (figures digest : Record) : Type 0 where
   pub spare : figures ≡ linkLayout (linkRound figures) (linkValue figures) (linkGroup figures)
-  pub drawn : DrawValue (linkGroup figures) (linkValue figures)
+  pub drawn : DrawValue Gs (linkGroup figures) (linkValue figures)
   pub next : linkRound figures ≡ round
   pub hashed : digest ≡ linkDigest before (linkValue figures) (linkRound figures)
 
 -- whole links, at most 1,024, of the rounds 1, 2, 3 and so on, each behind the digest of the one before
-pub record IsChain (b : List ℕ) : Type 0 where
+pub record IsChain (Gs : List Group) (b : List ℕ) : Type 0 where
   pub whole : length b % 64 ≡ 0
   pub most : linksIn b ≤ 1024
-  pub links : (i : ℕ) → i < linksIn b → IsLink (digestAfter b i) (suc i) (figuresAt b i) (digestAt b i)
+  pub links : (i : ℕ) → i < linksIn b → IsLink Gs (digestAfter b i) (suc i) (figuresAt b i) (digestAt b i)
 
--- these chains are accepted, and no others
+-- by an accepted table these chains are accepted, and no others; by another one none is
 abbrev pub AcceptedExactly : Type 0
-AcceptedExactly = (b : List ℕ) → Accepted b ↔ IsChain b
+AcceptedExactly = (T b : List ℕ) → Accepted T b ↔ (Met (tableChecks T) × IsChain (groupsOf T) b)
 
 -- every start of an accepted chain is accepted
 abbrev pub StartsAccepted : Type 0
-StartsAccepted = (b : List ℕ) → Accepted b → (m : ℕ) → m ≤ linksIn b → Accepted (take (64 * m) b)
+StartsAccepted = (T b : List ℕ) → Accepted T b → (m : ℕ) → m ≤ linksIn b → Accepted T (take (64 * m) b)
 
 -- ---- extending
 -- where it passes, the output is the next link, and the chain with it behind is accepted; where it refuses, the output is as it was
-pub record Extended (b : List ℕ) (number v : ℕ) (out : List ℕ) : Type 0 where
-  pub written : extendOutcome b number v (length out) ≡ value tt → lentLink b number v out ≡ nextLink b number v
-  pub accepted : extendOutcome b number v (length out) ≡ value tt → Accepted (b ++ lentLink b number v out)
-  pub kept : (k : ℕ) → extendOutcome b number v (length out) ≡ refused k → lentLink b number v out ≡ out
+pub record Extended (T b : List ℕ) (number v : ℕ) (out : List ℕ) : Type 0 where
+  pub written : extendOutcome T b number v (length out) ≡ value tt → lentLink T b number v out ≡ nextLink b number v
+  pub accepted : extendOutcome T b number v (length out) ≡ value tt → Accepted T (b ++ lentLink T b number v out)
+  pub kept : (k : ℕ) → extendOutcome T b number v (length out) ≡ refused k → lentLink T b number v out ≡ out
 
 abbrev pub ExtendLent : Type 0
-ExtendLent = (b : List ℕ) (number v : ℕ) (out : List ℕ) → Extended b number v out
+ExtendLent = (T b : List ℕ) (number v : ℕ) (out : List ℕ) → Extended T b number v out
 
--- the group is not in the digest: links by one draw value in two groups have one digest
+-- the group is not in the digest: links by one draw value in two groups, of one table or of two, have one digest
 abbrev pub GroupNotHashed : Type 0
 GroupNotHashed =
-    (b : List ℕ) (number number' v : ℕ) (out out' : List ℕ)
-    → extendOutcome b number v (length out) ≡ value tt → extendOutcome b number' v (length out') ≡ value tt
-    → drop 32 (lentLink b number v out) ≡ drop 32 (lentLink b number' v out')
+    (T T' b : List ℕ) (number number' v : ℕ) (out out' : List ℕ)
+    → extendOutcome T b number v (length out) ≡ value tt → extendOutcome T' b number' v (length out') ≡ value tt
+    → drop 32 (lentLink T b number v out) ≡ drop 32 (lentLink T' b number' v out')
+
+-- ---- the table
+-- of an accepted table nothing but its groups enters; so a table of the built-in groups gives the answers of no bytes
+pub record ChainByTable (T₁ T₂ b : List ℕ) : Type 0 where
+  pub judged : chainOutcome T₁ b ≡ chainOutcome T₂ b
+  pub extended : (number v room : ℕ) → extendOutcome T₁ b number v room ≡ extendOutcome T₂ b number v room
+  pub lent : (number v : ℕ) (out : List ℕ) → lentLink T₁ b number v out ≡ lentLink T₂ b number v out
+
+abbrev pub ChainByGroups : Type 0
+ChainByGroups =
+    (T₁ T₂ b : List ℕ) → Met (tableChecks T₁) → Met (tableChecks T₂) → groupsOf T₁ ≡ groupsOf T₂ → ChainByTable T₁ T₂ b
 
 -- ---- worked example
--- the first link by the draw value 4 in group 1, byte by byte; group 2 has this value too
+-- the first link by the draw value 4 in the built-in group 1, byte by byte; group 2 has this value too
 pub record FirstLink : Type 0 where
-  pub passed : extendOutcome [] 1 4 64 ≡ value tt
-  pub passed-too : extendOutcome [] 2 4 64 ≡ value tt
+  pub passed : extendOutcome [] [] 1 4 64 ≡ value tt
+  pub passed-too : extendOutcome [] [] 2 4 64 ≡ value tt
   pub bytes : nextLink [] 1 4
       ≡ 0 ∷ 0 ∷ 0 ∷ 1 ∷ 0 ∷ 0 ∷ 0 ∷ 4 ∷ 0 ∷ 0 ∷ 0 ∷ 1 ∷ (replicate 20 0
       ++ (0x7b ∷ 0xb2 ∷ 0xaa ∷ 0x9c ∷ 0x3a ∷ 0x5e ∷ 0x60 ∷ 0x98 ∷ 0xdc ∷ 0xe7 ∷ 0x38 ∷ 0x5b ∷ 0x89 ∷ 0x62 ∷ 0xc1 ∷ 0x25
@@ -107,20 +120,21 @@ lastApart b c (suc m) = pick (hashAlike b c m) (lastApart b c m) m
 abbrev pub CollisionAt : List ℕ → List ℕ → ℕ → ℕ → Type 0
 CollisionAt b c m i = (i < m) × Collision b i c i
 
--- accepted chains with one digest behind m links have the same m rounds and draw values, or the last two links apart collide
+-- accepted chains, by one table or by two, with one digest behind m links have the same m rounds and draw values, or the last two links
+-- apart collide
 abbrev pub KeptDigest : Type 0
 KeptDigest =
-    (b c : List ℕ) → Accepted b → Accepted c → (m : ℕ) → m ≤ linksIn b → m ≤ linksIn c → digestAfter b m ≡ digestAfter c m
+    (T T' b c : List ℕ) → Accepted T b → Accepted T' c → (m : ℕ) → m ≤ linksIn b → m ≤ linksIn c → digestAfter b m ≡ digestAfter c m
     → SameDraws b c m ⊎ CollisionAt b c m (lastApart b c m)
 
 -- the same of the last digests of two accepted chains of equal length
 abbrev pub LastDigests : Type 0
 LastDigests =
-    (b c : List ℕ) → Accepted b → Accepted c → length b ≡ length c → digestAfter b (linksIn b) ≡ digestAfter c (linksIn c)
+    (T T' b c : List ℕ) → Accepted T b → Accepted T' c → length b ≡ length c → digestAfter b (linksIn b) ≡ digestAfter c (linksIn c)
     → SameDraws b c (linksIn b) ⊎ CollisionAt b c (linksIn b) (lastApart b c (linksIn b))
 
 -- links of two rounds with one digest collide: so who keeps a digest need not keep its round
 abbrev pub OneRound : Type 0
 OneRound =
-    (b c : List ℕ) → Accepted b → Accepted c → (i j : ℕ) → i < linksIn b → j < linksIn c → (i ≡ j → ⊥) → digestAt b i ≡ digestAt c j
+    (T T' b c : List ℕ) → Accepted T b → Accepted T' c → (i j : ℕ) → i < linksIn b → j < linksIn c → (i ≡ j → ⊥) → digestAt b i ≡ digestAt c j
     → Collision b i c j

@@ -4,12 +4,12 @@ use mathlib.Core.List.{List, [], _∷_, _++_}
 use Prim.Native.Nat.{ℕ}
 use lib.Dec.{eqb}
 use Rattle.words.specs.Checks.{Check, _unless_}
-use Rattle.words.specs.Bytes.{wordsBytes, recordBytes}
+use Rattle.words.specs.Bytes.{wordsBytes, recordBytes, agrees}
 use Rattle.words.specs.declared.Record.{Record}
 use Rattle.sha256.specs.Hash.{hashValue}
 use Rattle.group.specs.Table.{isGroup, groupOf}
 use Rattle.group.specs.Element.{isElement}
-use Rattle.records.specs.Layout.{agrees}
+use Rattle.group.specs.declared.Group.{Group}
 
 -- ---- figures: the round, the draw value v and the group's number, and 20 spare bytes that are 0
 abbrev pub linkLayout : ℕ → ℕ → ℕ → Record
@@ -41,9 +41,9 @@ abbrev pub linkDigest : Record → ℕ → ℕ → Record
 linkDigest before v round = hashValue (linkMessage before v round)
 
 -- ---- checks
--- a draw value of a group
-abbrev pub valueChecks : ℕ → ℕ → List Check
-valueChecks number v = 1 unless isGroup number ∷ 6 unless isElement (groupOf number) v ∷ []
+-- a draw value of the group of that number, among the groups of a table
+abbrev pub valueChecks : List Group → ℕ → ℕ → List Check
+valueChecks Gs number v = 1 unless isGroup Gs number ∷ 6 unless isElement (groupOf Gs number) v ∷ []
 
 -- this round, and a digest behind this one
 abbrev pub placeChecks : Record → ℕ → Record → Record → List Check
@@ -53,6 +53,6 @@ placeChecks before round figures digest =
     ∷ []
 
 -- a link of this round behind this digest
-abbrev pub linkChecks : Record → ℕ → Record → Record → List Check
-linkChecks before round figures digest =
-    (4 unless isLinkRecord figures ∷ valueChecks (linkGroup figures) (linkValue figures)) ++ placeChecks before round figures digest
+abbrev pub linkChecks : List Group → Record → ℕ → Record → Record → List Check
+linkChecks Gs before round figures digest =
+    (4 unless isLinkRecord figures ∷ valueChecks Gs (linkGroup figures) (linkValue figures)) ++ placeChecks before round figures digest

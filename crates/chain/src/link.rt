@@ -1,15 +1,16 @@
 // One link of the chain: its figures, its digest, and what it is refused by.
 ghost use mathlib.Core.Path.{_≡_};
 ghost use Rattle.words.specs.Checks.{refusal};
+ghost use Rattle.group.specs.Table.{groupsOf};
 ghost use Rattle.chain.specs.Link.{linkLayout, isLinkRecord, noDigest, linkDigest, valueChecks, linkChecks};
 use group::Element;
 use group::GroupAnswer;
-use group::group_of;
+use group::group_in;
 use group::is_element;
-use records::agrees;
 use sha256::DigestAnswer;
 use sha256::digest;
 use words::Record;
+use words::agrees;
 use words::put_word;
 use words::write_record;
 
@@ -66,11 +67,11 @@ pub(crate) fn link_digest(before: Record, value: Element, round: u32) -> Record
     d
 }
 
-// What a draw value is refused by: 1 no group of that number; 6 no element of it. 0 where it is not.
-pub(crate) fn value_refusal(number: u32, value: Element) -> u32
-    ensures { λ r. ⌜ r ≡ refusal (valueChecks number (value .0)) ⌝ }
+// What a draw value is refused by, in a table that has been judged before: 1 no group of that number; 6 no element of it. 0 where it is not.
+pub(crate) fn value_refusal(table: &[u8], number: u32, value: Element) -> u32
+    ensures { λ r. ⌜ r ≡ refusal (valueChecks (groupsOf (now (table .entry))) number (value .0)) ⌝ }
 {
-    let GroupAnswer::Value(gr) = group_of(number) else {
+    let GroupAnswer::Value(gr) = group_in(table, number) else {
         return 1;
     };
     if !is_element(gr, value) {
@@ -79,16 +80,22 @@ pub(crate) fn value_refusal(number: u32, value: Element) -> u32
     0
 }
 
-// What a link is refused by, as the link of this round behind this digest: 4 a spare byte; 1 and 6 the draw value; 19 the round; 18 the
-// digest. 0 where it is not.
-pub(crate) fn link_refusal(before: Record, round: u32, figures: Record, digest: Record) -> u32
-    ensures { λ r. ⌜ r ≡ refusal (linkChecks before round figures digest) ⌝ }
+// What a link is refused by, as the link of this round behind this digest: 4 a spare byte; 1 and 6 the draw value, as value_refusal; 19 the
+// round; 18 the digest. 0 where it is not.
+pub(crate) fn link_refusal(
+    table: &[u8],
+    before: Record,
+    round: u32,
+    figures: Record,
+    digest: Record,
+) -> u32
+    ensures { λ r. ⌜ r ≡ refusal (linkChecks (groupsOf (now (table .entry))) before round figures digest) ⌝ }
 {
     if !is_link_record(figures) {
         return 4;
     }
     let value = Element(figures.w1);
-    let refused = value_refusal(figures.w2, value);
+    let refused = value_refusal(table, figures.w2, value);
     if refused != 0 {
         return refused;
     }

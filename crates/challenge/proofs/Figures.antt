@@ -1,14 +1,14 @@
 -- The challenges of "abc" around the first round under the new rule, by computing them from its digest.
 use mathlib.Core.Path.{ap}
 use Rattle.sha256.proofs.Examples.{abc}
-use Rattle.group.specs.Table.{groupOf}
+use Rattle.group.specs.Table.{groupsOf, groupOf}
 use Rattle.sharing.specs.Setting.{takesWhole}
 use Rattle.challenge.specs.Exponent.{exponentOf}
 use Rattle.challenge.specs.Message.{challengeOf}
 use Rattle.challenge.specs.Claims.{largeIn, AroundFirst}
 
 pub around-first : AroundFirst
-unfolding challengeOf exponentOf takesWhole groupOf
+unfolding challengeOf exponentOf takesWhole groupsOf groupOf
 around-first =
     record {
       before = ap (exponentOf (largeIn 6 7)) abc;

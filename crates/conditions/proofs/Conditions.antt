@@ -11,20 +11,20 @@ use lib.ListN.{length, getD, take}
 use Rattle.words.specs.Choice.{pick}
 use Rattle.words.specs.Lists.{All, map, upFrom}
 use Rattle.words.specs.Checks.{Outcome, value, outcome, Met}
+use Rattle.words.specs.Bytes.{recordsIn, recordAt}
 use Rattle.words.proofs.Lists.{up-length, up-at}
 use Rattle.words.proofs.Tests.{false-true, and-true, all-at, pick-true}
 use Rattle.field.specs.Residue.{mul}
 use Rattle.field.specs.Polynomial.{valueAt}
-use Rattle.group.specs.Table.{groupOf}
+use Rattle.group.specs.Table.{groupsOf, groupOf}
 use Rattle.group.specs.declared.Element.{Element}
 use Rattle.sharing.specs.Carried.{Carries}
 use Rattle.sharing.specs.Figures.{smallRound, small}
 use Rattle.sums.specs.Sum.{sumOf}
 use Rattle.sharing.proofs.Figures.{small-proper, carried-figures, refused-uncarried}
-use Rattle.records.specs.Layout.{shareKind, dealerOf, memberOf, ZOf, entry, recordAt}
+use Rattle.records.specs.Layout.{shareKind, dealerOf, memberOf, ZOf, entry}
 use Rattle.dealing.specs.Dealing.{vIn}
 use Rattle.share.specs.Share.{openedForm}
-use Rattle.board.specs.Search.{recordsIn}
 use Rattle.board.specs.Board.{boardChecks, linesOf}
 use Rattle.board.proofs.Numbers.{board-met}
 use Rattle.verdicts.specs.Shares.{judges, recoveredFrom}
@@ -63,7 +63,7 @@ Found Stuck = ⊥
 abbrev endOf : List ℕ → List Verdict → List ℕ → Outcome Element
 endOf b vs is =
     outcome (endChecks 2 (countAccepted vs) (anyStuck vs) (length is))
-    (pick (anyStuck vs) (record { 0 = recoveredFrom (groupOf 1) b (take 2 is) }) (record { 0 = secretsProduct 23 vs }))
+    (pick (anyStuck vs) (record { 0 = recoveredFrom (groupOf (groupsOf []) 1) b (take 2 is) }) (record { 0 = secretsProduct 23 vs }))
 
 -- ---- one board
 module _ {b vs : List ℕ} {s : Secret} (K : Known b vs s) where
@@ -79,12 +79,12 @@ module _ {b vs : List ℕ} {s : Secret} (K : Known b vs s) where
       by-four (λ d. isAccepted judges small b d ≡ true → P d) (λ a. p) (λ a. q)
       (λ a. absurd (false-true (sym (K .third .0) ∙ a))) (λ a. absurd (false-true (sym (K .fourth .0) ∙ a)))
 
-  draw : drawOn judges smallRound b ≡ endOf b (Accepted s ∷ Accepted (opened 3) ∷ None ∷ None ∷ []) (addedBy judges small b)
-  unfolding groupOf drawOf
+  draw : drawOn judges [] smallRound b ≡ endOf b (Accepted s ∷ Accepted (opened 3) ∷ None ∷ None ∷ []) (addedBy judges small b)
+  unfolding groupsOf groupOf drawOf
   draw =
       let v = rule 1 .accepted s .1 (K .first, K .first-secret) in
       let w = rule 2 .accepted (opened 3) .1 (K .second, K .second-secret) in
-      draw-by-round judges smallRound .draw-in (carried-figures .0) b
+      draw-by-round judges [] smallRound .draw-in (carried-figures .0) b
       ∙ reached-draw judges small b reached
       ∙ (λ j. endOf b (v j ∷ w j ∷ K .third .1 j ∷ K .fourth .1 j ∷ []) (addedBy judges small b))
 
@@ -174,7 +174,7 @@ conditions-met =
     }
 
 uncarried : (f : List ℕ) → Carries small f (commitmentsOf small uncarriedLow 1) → ⊥
-unfolding groupOf
+unfolding groupsOf groupOf
 uncarried f C =
     refused-uncarried (9 ∷ 16 ∷ 4 ∷ 18 ∷ []) (1 ∷ 0 ∷ []) (record { size = refl; low = (omega arith, (omega arith, tt)) }) (all-known .not-passed) f
     (subst (Carries small f) (all-known .low-known .commitments .0) C)

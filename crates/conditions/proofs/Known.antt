@@ -8,12 +8,12 @@ use lib.Dec.{eqb}
 use Rattle.words.specs.Choice.{pick}
 use Rattle.words.specs.Lists.{map, all, upFrom}
 use Rattle.words.specs.Checks.{Outcome, refused, isValue, refusal}
-use Rattle.words.specs.Bytes.{wordAt, wordBytes, wordsBytes, recordBytes, recordIn}
+use Rattle.words.specs.Bytes.{wordAt, wordBytes, wordsBytes, recordBytes, recordIn, recordsIn, recordAt, agrees}
 use Rattle.field.specs.Residue.{add, mul, sub, inv}
 use Rattle.field.specs.Polynomial.{valueAt}
 use Rattle.group.specs.Power.{pow}
-use Rattle.group.specs.Table.{groupOf}
-use Rattle.group.specs.Element.{isElement, isExponent}
+use Rattle.group.specs.Table.{groupsOf, groupOf}
+use Rattle.group.specs.Element.{isElement, isGenerator, isExponent}
 use Rattle.group.specs.declared.Element.{Element}
 use Rattle.sharing.specs.Setting.{isMember, members}
 use Rattle.sharing.specs.Weights.{gapsAt, weightAt, weightsOf, lagrangeAt, powersProduct}
@@ -21,10 +21,9 @@ use Rattle.sharing.specs.Answer.{degreeProduct, degreeFigures, degreeEquation, 
 use Rattle.sharing.specs.Carried.{powersAt, Carries}
 use Rattle.sharing.specs.Figures.{small}
 use Rattle.sums.specs.Sum.{sumOf}
-use Rattle.records.specs.Layout.{shareKind, dealerOf, memberOf, ZOf, agrees, entry, recordAt}
+use Rattle.records.specs.Layout.{shareKind, dealerOf, memberOf, ZOf, entry}
 use Rattle.records.specs.Keys.{isKey, keyChecks}
 use Rattle.dealing.specs.Dealing.{vIn, YIn, vsIn}
-use Rattle.board.specs.Search.{recordsIn}
 use Rattle.board.specs.Board.{isShaped, isBelow, formChecks, placeOf, isAt, recordBy, keyIn, boardKeyChecks, boardChecks, lineCount, linesOf}
 use Rattle.share.specs.Share.{addedForm}
 use Rattle.verdicts.specs.Shares.{judges, shareAnswer, isShareIn, sharesIn, recoveredFrom, fromLowest}
@@ -114,7 +113,7 @@ pub record AllKnown : Type 0 where
   pub second-carried : Carries small (polynomialOf 2) (6 ∷ 18 ∷ 8 ∷ 1 ∷ [])
 
 pub all-known : AllKnown
-unfolding wordAt wordBytes wordsBytes recordBytes recordIn add mul sub inv pow groupOf isElement isExponent isMember gapsAt weightAt weightsOf lagrangeAt powersProduct degreeProduct degreeFigures degreeEquation degreeIn recovered isOpening openingFigures openingEquation openingIn powersAt agrees entry recordAt isKey keyChecks vIn YIn vsIn isShaped isBelow formChecks placeOf isAt recordBy keyIn boardKeyChecks boardChecks lineCount linesOf isAccepted encryptedOf shareAnswer isShareIn sharesIn fromLowest fromShares isOpened secretBy verdictOn
+unfolding wordAt wordBytes wordsBytes recordBytes recordIn add mul sub inv pow groupsOf groupOf isElement isExponent isMember gapsAt weightAt weightsOf lagrangeAt powersProduct degreeProduct degreeFigures degreeEquation degreeIn recovered isOpening openingFigures openingEquation openingIn powersAt agrees entry recordAt isGenerator isKey keyChecks vIn YIn vsIn isShaped isBelow formChecks placeOf isAt recordBy keyIn boardKeyChecks boardChecks lineCount linesOf isAccepted encryptedOf shareAnswer isShareIn sharesIn fromLowest fromShares isOpened secretBy verdictOn
 all-known =
     let first = ap isValue (answers .first) in
     let uncarried = ap isValue (answers .uncarried) in
@@ -145,7 +144,7 @@ abbrev product : List ℕ → (List ℕ → ℕ → ℕ) → List ℕ
 product b figure = map (multipliedAt 23 b figure (1 ∷ 2 ∷ [])) (members 4)
 
 products-are : {b vs : List ℕ} {s : Secret} → Known b vs s → (figure : List ℕ → ℕ → ℕ) → multiplied judges small b figure ≡ product b figure
-unfolding multiplied groupOf
+unfolding multiplied groupsOf groupOf
 products-are {b} K figure = ap (λ (ds : List ℕ). map (multipliedAt 23 b figure ds) (members 4)) (two-accepted K)
 
 pub record AddedKnown (b : List ℕ) (v : ℕ) : Type 0 where
@@ -163,7 +162,7 @@ pub record AllAdded : Type 0 where
   pub sum-carries : Carries small (9 ∷ 9 ∷ []) (8 ∷ 12 ∷ 18 ∷ 4 ∷ [])
 
 pub all-added : AllAdded
-unfolding wordAt wordBytes wordsBytes recordBytes recordIn add mul sub inv pow groupOf isElement lagrangeAt powersProduct recovered powersAt entry recordAt vIn YIn isBelow placeOf isAt recordBy keyIn linesOf shareAnswer isShareIn sharesIn
+unfolding wordAt wordBytes wordsBytes recordBytes recordIn add mul sub inv pow groupsOf groupOf isElement lagrangeAt powersProduct recovered powersAt entry recordAt vIn YIn isBelow placeOf isAt recordBy keyIn linesOf shareAnswer isShareIn sharesIn
 all-added =
     let shares : List ℕ → List ℕ → List ℕ = λ b Ys. sharesIn judges small b addedForm Ys in
     record {

@@ -9,13 +9,13 @@ use lib.Dec.{eqb}
 use lib.ListN.{length}
 use Rattle.words.specs.Choice.{pick}
 use Rattle.words.specs.Checks.{value, Met}
+use Rattle.words.specs.Bytes.{recordsIn, recordAt}
 use Rattle.group.specs.Power.{pow}
 use Rattle.sharing.specs.Setting.{ProperSetting}
 use Rattle.sharing.specs.Carried.{Carries}
 use Rattle.sharing.specs.Figures.{smallRound, small}
-use Rattle.records.specs.Layout.{memberOf, ZOf, recordAt}
+use Rattle.records.specs.Layout.{memberOf, ZOf}
 use Rattle.dealing.specs.Dealing.{vIn}
-use Rattle.board.specs.Search.{recordsIn}
 use Rattle.board.specs.Board.{boardChecks, linesOf}
 use Rattle.verdicts.specs.Shares.{judges}
 use Rattle.verdicts.specs.Verdict.{isAccepted, commitmentsOf, isShareBy}
@@ -30,7 +30,7 @@ polynomialOf d = pick (eqb d 1) (3 ∷ 5 ∷ []) (6 ∷ 4 ∷ [])
 
 -- what the board judge answers for a board of group 1 with n = 4 and t = 2, whose setting is that of all these claims
 abbrev pub DrawIs : List ℕ → ℕ → Type 0
-DrawIs b v = drawOn judges smallRound b ≡ value (record { 0 = v })
+DrawIs b v = drawOn judges [] smallRound b ≡ value (record { 0 = v })
 
 -- ---- the conditions are met: where the first dealer has opened and where he is silent, the draw is 2
 pub record ConditionsMet : Type 0 where

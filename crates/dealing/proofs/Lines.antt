@@ -7,12 +7,12 @@ use native.Mathlib.Omega.{arith}
 use borrow.Rule.Slice.PartMut.{putMid}
 use lib.ListN.{length, getD, take, drop}
 use lib.Seq.{take-all, drop-length}
-use Rattle.words.specs.Bytes.{putAt, recordBytes, recordIn}
+use Rattle.words.specs.Bytes.{putAt, recordBytes, recordIn, recordAt}
 use Rattle.words.specs.declared.Record.{Record}
 use Rattle.words.proofs.Lists.{drop-next}
 use Rattle.words.proofs.Bytes.{record-length, put-back, put-take}
-use Rattle.records.specs.Layout.{recordAt, recordOf, recordsBytes}
-use Rattle.records.proofs.Layouts.{record-of}
+use Rattle.records.specs.Layout.{recordOf, recordsBytes}
+use Rattle.records.proofs.Posted.{record-of}
 
 -- the part of 32 bytes that is handed on is the member's record
 pub line-part : (b : List ℕ) (i : ℕ) → recordIn (take (32 * i + 32 - 32 * i) (drop (32 * i) b)) ≡ recordOf b (i + 1)

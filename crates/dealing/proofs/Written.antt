@@ -27,7 +27,7 @@ use Rattle.sharing.proofs.Degree.{passed-product}
 use Rattle.sharing.proofs.Theorems.{carried-passes}
 use Rattle.records.specs.Layout.{isLineRecord, dealerOf, memberOf, roundOf, vOf, YOf, rOf, cOf, entry, recordOf}
 use Rattle.records.specs.Keys.{isKey}
-use Rattle.records.proofs.Layouts.{laid-agrees}
+use Rattle.words.proofs.Records.{laid-agrees}
 use Rattle.records.proofs.Members.{each-members, member-exactly, key-element, entry-all}
 use Rattle.records.proofs.Posted.{member-word, element-word, exponent-word, records-length, record-back}
 use Rattle.challenge.proofs.Challenges.{challenge-low, check-polynomial}
@@ -221,32 +221,32 @@ lent-dealing-kept S d ys f ws out k e =
 
 -- ---- over a round
 -- a refusal over a round leaves the lent bytes
-refused-kept : (R : Round) (checks : Setting → List Check) (new : Setting → List ℕ) (old : List ℕ) (k : ℕ)
-    → judged R checks (λ S. tt {0}) ≡ refused k → judgedElse R checks new old ≡ old
+refused-kept : (T : List ℕ) (R : Round) (checks : Setting → List Check) (new : Setting → List ℕ) (old : List ℕ) (k : ℕ)
+    → judged T R checks (λ S. tt {0}) ≡ refused k → judgedElse T R checks new old ≡ old
 unfolding judged judgedElse
-refused-kept R checks new old k e =
-    let cs = roundChecks R ++ checks (settingIn R) in
-    if-unmet (new (settingIn R)) old cs k (refused-exactly Unit cs tt k .0 e)
+refused-kept T R checks new old k e =
+    let cs = roundChecks T R ++ checks (settingIn T R) in
+    if-unmet (new (settingIn T R)) old cs k (refused-exactly Unit cs tt k .0 e)
 
 pub dealing-by-round : DealingByRound
 unfolding judgeDealingOutcome judgeDealingIn writeDealingOutcome writeDealingIn lentDealing lentDealingIn
-dealing-by-round R =
+dealing-by-round T R =
     record {
-      judged-met = λ d ys b e. judged-exactly R (λ S. judgeDealingChecks S d ys b) (λ S. tt) tt .0 e .0;
-      written-met = λ d ys f ws room e. judged-exactly R (λ S. writeDealingChecks S d ys f ws room) (λ S. tt) tt .0 e .0;
-      kept = λ d ys f ws out k e. refused-kept R (λ S. writeDealingChecks S d ys f ws (length out)) (λ S. writtenDealing S d ys f ws) out k e;
-      proper = round-proper R;
-      judged-in = λ m d ys b. judged-in R (λ S. judgeDealingChecks S d ys b) (λ S. tt) m;
-      written-in = λ m d ys f ws room. judged-in R (λ S. writeDealingChecks S d ys f ws room) (λ S. tt) m;
-      lent-in = λ m d ys f ws out. judged-else-in R (λ S. writeDealingChecks S d ys f ws (length out)) (λ S. writtenDealing S d ys f ws) m out;
+      judged-met = λ d ys b e. judged-exactly T R (λ S. judgeDealingChecks S d ys b) (λ S. tt) tt .0 e .0;
+      written-met = λ d ys f ws room e. judged-exactly T R (λ S. writeDealingChecks S d ys f ws room) (λ S. tt) tt .0 e .0;
+      kept = λ d ys f ws out k e. refused-kept T R (λ S. writeDealingChecks S d ys f ws (length out)) (λ S. writtenDealing S d ys f ws) out k e;
+      proper = round-proper T R;
+      judged-in = λ m d ys b. judged-in T R (λ S. judgeDealingChecks S d ys b) (λ S. tt) m;
+      written-in = λ m d ys f ws room. judged-in T R (λ S. writeDealingChecks S d ys f ws room) (λ S. tt) m;
+      lent-in = λ m d ys f ws out. judged-else-in T R (λ S. writeDealingChecks S d ys f ws (length out)) (λ S. writtenDealing S d ys f ws) m out;
       complete = complete;
     }
   where
-    complete : R .round < 2 ^ 32 → (d : ℕ) (ys f ws out : List ℕ) → writeDealingOutcome R d ys f ws (length out) ≡ value tt
-        → judgeDealingOutcome R d ys (lentDealing R d ys f ws out) ≡ value tt
+    complete : R .round < 2 ^ 32 → (d : ℕ) (ys f ws out : List ℕ) → writeDealingOutcome T R d ys f ws (length out) ≡ value tt
+        → judgeDealingOutcome T R d ys (lentDealing T R d ys f ws out) ≡ value tt
     complete k d ys f ws out e =
-        let w = judged-exactly R (λ S. writeDealingChecks S d ys f ws (length out)) (λ S. tt) tt .0 e in
-        let lent = judged-else-in R (λ S. writeDealingChecks S d ys f ws (length out)) (λ S. writtenDealing S d ys f ws) (w .0) out in
-        judged-in R (λ S. judgeDealingChecks S d ys (lentDealing R d ys f ws out)) (λ S. tt) (w .0)
-        ∙ ap (judgeDealingIn (settingIn R) d ys) lent
-        ∙ lent-dealing (settingIn R) (round-proper R (w .0)) k d ys f ws out (w .1)
+        let w = judged-exactly T R (λ S. writeDealingChecks S d ys f ws (length out)) (λ S. tt) tt .0 e in
+        let lent = judged-else-in T R (λ S. writeDealingChecks S d ys f ws (length out)) (λ S. writtenDealing S d ys f ws) (w .0) out in
+        judged-in T R (λ S. judgeDealingChecks S d ys (lentDealing T R d ys f ws out)) (λ S. tt) (w .0)
+        ∙ ap (judgeDealingIn (settingIn T R) d ys) lent
+        ∙ lent-dealing (settingIn T R) (round-proper T R (w .0)) k d ys f ws out (w .1)

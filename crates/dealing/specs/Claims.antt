@@ -129,20 +129,20 @@ LentDealingKept =
     (S : Setting) (d : ℕ) (ys f ws out : List ℕ) (k : ℕ) → writeDealingIn S d ys f ws (length out) ≡ refused k
     → lentDealingIn S d ys f ws out ≡ out
 
--- ---- over a round
--- nothing is accepted or written where 1 or 2 refuses the round; else judge and writer do what they do in its setting, which is proper
-pub record DealingOverRound (R : Round) : Type 0 where
-  pub judged-met : (d : ℕ) (ys b : List ℕ) → judgeDealingOutcome R d ys b ≡ value tt → Met (roundChecks R)
-  pub written-met : (d : ℕ) (ys f ws : List ℕ) (room : ℕ) → writeDealingOutcome R d ys f ws room ≡ value tt → Met (roundChecks R)
-  pub kept : (d : ℕ) (ys f ws out : List ℕ) (k : ℕ) → writeDealingOutcome R d ys f ws (length out) ≡ refused k → lentDealing R d ys f ws out ≡ out
-  pub proper : Met (roundChecks R) → ProperSetting (settingIn R)
-  pub judged-in : Met (roundChecks R) → (d : ℕ) (ys b : List ℕ) → judgeDealingOutcome R d ys b ≡ judgeDealingIn (settingIn R) d ys b
-  pub written-in : Met (roundChecks R) → (d : ℕ) (ys f ws : List ℕ) (room : ℕ)
-      → writeDealingOutcome R d ys f ws room ≡ writeDealingIn (settingIn R) d ys f ws room
-  pub lent-in : Met (roundChecks R) → (d : ℕ) (ys f ws out : List ℕ) → lentDealing R d ys f ws out ≡ lentDealingIn (settingIn R) d ys f ws out
+-- ---- over a table and a round
+-- nothing is accepted or written where their checks refuse; else judge and writer do what they do in their setting, which is proper
+pub record DealingOverRound (T : List ℕ) (R : Round) : Type 0 where
+  pub judged-met : (d : ℕ) (ys b : List ℕ) → judgeDealingOutcome T R d ys b ≡ value tt → Met (roundChecks T R)
+  pub written-met : (d : ℕ) (ys f ws : List ℕ) (room : ℕ) → writeDealingOutcome T R d ys f ws room ≡ value tt → Met (roundChecks T R)
+  pub kept : (d : ℕ) (ys f ws out : List ℕ) (k : ℕ) → writeDealingOutcome T R d ys f ws (length out) ≡ refused k → lentDealing T R d ys f ws out ≡ out
+  pub proper : Met (roundChecks T R) → ProperSetting (settingIn T R)
+  pub judged-in : Met (roundChecks T R) → (d : ℕ) (ys b : List ℕ) → judgeDealingOutcome T R d ys b ≡ judgeDealingIn (settingIn T R) d ys b
+  pub written-in : Met (roundChecks T R) → (d : ℕ) (ys f ws : List ℕ) (room : ℕ)
+      → writeDealingOutcome T R d ys f ws room ≡ writeDealingIn (settingIn T R) d ys f ws room
+  pub lent-in : Met (roundChecks T R) → (d : ℕ) (ys f ws out : List ℕ) → lentDealing T R d ys f ws out ≡ lentDealingIn (settingIn T R) d ys f ws out
   -- what is written is accepted by a judge that takes the same figures of the round: its number, and the first round under the new rule
-  pub complete : R .round < 2 ^ 32 → (d : ℕ) (ys f ws out : List ℕ) → writeDealingOutcome R d ys f ws (length out) ≡ value tt
-      → judgeDealingOutcome R d ys (lentDealing R d ys f ws out) ≡ value tt
+  pub complete : R .round < 2 ^ 32 → (d : ℕ) (ys f ws out : List ℕ) → writeDealingOutcome T R d ys f ws (length out) ≡ value tt
+      → judgeDealingOutcome T R d ys (lentDealing T R d ys f ws out) ≡ value tt
 
 abbrev pub DealingByRound : Type 0
-DealingByRound = (R : Round) → DealingOverRound R
+DealingByRound = (T : List ℕ) (R : Round) → DealingOverRound T R

@@ -67,15 +67,15 @@ writeDealingChecks S d ys f ws room =
 unfoldable pub writeDealingIn : Setting → ℕ → List ℕ → List ℕ → List ℕ → ℕ → Outcome (Unit {0})
 writeDealingIn S d ys f ws room = outcome (writeDealingChecks S d ys f ws room) tt
 
-unfoldable pub writeDealingOutcome : Round → ℕ → List ℕ → List ℕ → List ℕ → ℕ → Outcome (Unit {0})
-writeDealingOutcome R d ys f ws room = judged R (λ S. writeDealingChecks S d ys f ws room) (λ S. tt)
+unfoldable pub writeDealingOutcome : List ℕ → Round → ℕ → List ℕ → List ℕ → List ℕ → ℕ → Outcome (Unit {0})
+writeDealingOutcome T R d ys f ws room = judged T R (λ S. writeDealingChecks S d ys f ws room) (λ S. tt)
 
 -- the lent bytes afterwards
 unfoldable pub lentDealingIn : Setting → ℕ → List ℕ → List ℕ → List ℕ → List ℕ → List ℕ
 lentDealingIn S d ys f ws out = ifMet (writeDealingChecks S d ys f ws (length out)) (writtenDealing S d ys f ws) out
 
-unfoldable pub lentDealing : Round → ℕ → List ℕ → List ℕ → List ℕ → List ℕ → List ℕ
-lentDealing R d ys f ws out = judgedElse R (λ S. writeDealingChecks S d ys f ws (length out)) (λ S. writtenDealing S d ys f ws) out
+unfoldable pub lentDealing : List ℕ → Round → ℕ → List ℕ → List ℕ → List ℕ → List ℕ → List ℕ
+lentDealing T R d ys f ws out = judgedElse T R (λ S. writeDealingChecks S d ys f ws (length out)) (λ S. writtenDealing S d ys f ws) out
 
 -- ---- judged: the figures of member i in the lines b
 unfoldable pub vIn : List ℕ → ℕ → ℕ
@@ -157,5 +157,5 @@ judgeDealingChecks S d ys b = dealingFormChecks S d ys b ++ lineFigureChecks S d
 unfoldable pub judgeDealingIn : Setting → ℕ → List ℕ → List ℕ → Outcome (Unit {0})
 judgeDealingIn S d ys b = outcome (judgeDealingChecks S d ys b) tt
 
-unfoldable pub judgeDealingOutcome : Round → ℕ → List ℕ → List ℕ → Outcome (Unit {0})
-judgeDealingOutcome R d ys b = judged R (λ S. judgeDealingChecks S d ys b) (λ S. tt)
+unfoldable pub judgeDealingOutcome : List ℕ → Round → ℕ → List ℕ → List ℕ → Outcome (Unit {0})
+judgeDealingOutcome T R d ys b = judged T R (λ S. judgeDealingChecks S d ys b) (λ S. tt)

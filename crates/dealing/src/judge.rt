@@ -25,7 +25,6 @@ use group::all_exponents;
 use records::is_line_record;
 use records::is_of_round;
 use records::keys_refusal;
-use records::record_at;
 use sharing::CheckAnswer;
 use sharing::Round;
 use sharing::Setting;
@@ -35,6 +34,7 @@ use sharing::is_member;
 use sharing::passed_if;
 use sharing::setting_of;
 use words::read_record;
+use words::record_at;
 
 // Whether a record is a line of the dealer d for member i. Internal: callers ensure that the bytes are one record.
 fn is_line_for(d: u32, i: u32, line: &[u8]) -> bool
@@ -256,14 +256,14 @@ pub fn judge_dealing_in(s: Setting, d: u32, ys: &[u32], lines: &[u8]) -> CheckAn
     judge_lines(s, d, ys, lines).answer
 }
 
-// Judges the lines of the dealer d, with the keys ys. Refused: 1 and 2 as setting_of; 8 d is no member; 3 not n keys or not 32n
+// Judges the lines of the dealer d, with the keys ys. Refused: as setting_of; 8 d is no member; 3 not n keys or not 32n
 // bytes; 6 a key that is no element or is 1; 4 a record that is no line of d for the member of its place; 17 a line of another
 // round; 6 a v or Y that is no element; 7 an r or c not below q; 9 the judge's own check polynomial does not pass; 10 a challenge is
 // not the recomputed one.
-pub fn judge_dealing(rd: Round, d: u32, ys: &[u32], lines: &[u8]) -> CheckAnswer
-    ensures { λ r. ⌜ checkOutcomeOf r ≡ judgeDealingOutcome rd d (now (ys .entry)) (now (lines .entry)) ⌝ }
+pub fn judge_dealing(table: &[u8], rd: Round, d: u32, ys: &[u32], lines: &[u8]) -> CheckAnswer
+    ensures { λ r. ⌜ checkOutcomeOf r ≡ judgeDealingOutcome (now (table .entry)) rd d (now (ys .entry)) (now (lines .entry)) ⌝ }
 {
-    match setting_of(rd) {
+    match setting_of(table, rd) {
         SettingAnswer::Refused(k) => CheckAnswer::Refused(k),
         SettingAnswer::Value(s) => judge_dealing_in(s, d, ys, lines),
     }

@@ -175,9 +175,10 @@ pub fn write_dealing_in(
 }
 
 // Writes a dealing of the dealer d into the lent bytes, from the keys ys, the polynomial f and the nonces ws. Refused, with no byte
-// changed: 1 and 2 as setting_of; 8 d is no member; 3 not n keys, t coefficients, n nonces or 32n bytes; 6 a key that is no element
+// changed: as setting_of; 8 d is no member; 3 not n keys, t coefficients, n nonces or 32n bytes; 6 a key that is no element
 // or is 1; 7 a coefficient or a nonce not below q.
 pub fn write_dealing(
+    table: &[u8],
     rd: Round,
     d: u32,
     ys: &[u32],
@@ -185,10 +186,10 @@ pub fn write_dealing(
     ws: &[u32],
     out: &mut [u8],
 ) -> CheckAnswer
-    ensures { λ r. ⌜ checkOutcomeOf r ≡ writeDealingOutcome rd d (now (ys .entry)) (now (f .entry)) (now (ws .entry)) (length (now (out .entry))) ⌝ }
-    ensures { λ r. ⌜ now (out .exit) ≡ lentDealing rd d (now (ys .entry)) (now (f .entry)) (now (ws .entry)) (now (out .entry)) ⌝ }
+    ensures { λ r. ⌜ checkOutcomeOf r ≡ writeDealingOutcome (now (table .entry)) rd d (now (ys .entry)) (now (f .entry)) (now (ws .entry)) (length (now (out .entry))) ⌝ }
+    ensures { λ r. ⌜ now (out .exit) ≡ lentDealing (now (table .entry)) rd d (now (ys .entry)) (now (f .entry)) (now (ws .entry)) (now (out .entry)) ⌝ }
 {
-    match setting_of(rd) {
+    match setting_of(table, rd) {
         SettingAnswer::Refused(k) => CheckAnswer::Refused(k),
         SettingAnswer::Value(s) => write_dealing_in(s, d, ys, f, ws, out),
     }

@@ -13,7 +13,7 @@ use lib.Dec.{leb, eqb}
 use Rattle.words.specs.Choice.{pick}
 use Rattle.words.specs.Lists.{all, map, upFrom}
 use Rattle.words.specs.Checks.{Check, _unless_, Outcome, refused, outcome, isValue, Met, FirstUnmet}
-use Rattle.words.specs.Bytes.{recordIn}
+use Rattle.words.specs.Bytes.{recordIn, recordsIn, recordAt, agrees}
 use Rattle.words.specs.declared.Record.{Record}
 use Rattle.words.proofs.Lists.{All-to, All-each, map-same, up-within}
 use Rattle.words.proofs.Tests.{false-true}
@@ -26,8 +26,8 @@ use Rattle.group.specs.declared.Element.{Element}
 use Rattle.sharing.specs.Setting.{ProperSetting, isMember, members}
 use Rattle.sharing.specs.Answer.{degreeProduct}
 use Rattle.sharing.specs.declared.Setting.{Setting}
-use Rattle.records.specs.Layout.{shareKind, addedKind, agrees, isKeyRecord, isLineRecord, isOpeningRecord, isShareRecord}
-use Rattle.records.specs.Layout.{dealerOf, memberOf, uOf, ZOf, shareC, shareR, entry, recordAt, recordOf}
+use Rattle.records.specs.Layout.{shareKind, addedKind, isKeyRecord, isLineRecord, isOpeningRecord, isShareRecord}
+use Rattle.records.specs.Layout.{dealerOf, memberOf, uOf, ZOf, shareC, shareR, entry, recordOf}
 use Rattle.records.specs.Keys.{keyChecks}
 use Rattle.records.proofs.Members.{members-exactly}
 use Rattle.challenge.specs.Message.{shareTag, challengeOf, checkPolynomial}
@@ -35,7 +35,6 @@ use Rattle.challenge.proofs.Challenges.{challenge-by-rule, round-zero}
 use Rattle.equality.specs.Equality.{announced}
 use Rattle.dealing.specs.Dealing.{addressChecks, judgeSizeChecks, vIn, YIn, rIn, cIn, vsIn, lineChecks, dealingFormChecks, recomputed, rangeChecks, equationChecks, lineFigureChecks, judgeDealingIn}
 use Rattle.share.specs.Share.{openedForm, addedForm, isDealer, membersChecks, shareInputChecks, shareFormChecks, shareAdmissionChecks, shareRecomputed, shareFigureChecks, judgeShareIn}
-use Rattle.board.specs.Search.{recordsIn}
 use Rattle.board.specs.Board.{isShaped, recordChecks, lengthChecks, formChecks, boardKeyChecks, boardChecks, lineCount, linesOf, openingPlace}
 use Rattle.board.proofs.Searches.{filter-same}
 use Rattle.board.proofs.Order.{reached}

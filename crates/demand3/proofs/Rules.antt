@@ -7,7 +7,7 @@ use borrow.Author.Tests.{eq-eqb}
 use lib.Dec.{eqb}
 use Rattle.words.specs.Lists.{all}
 use Rattle.words.specs.Checks.{Check, _unless_, value, refused, outcome, Met}
-use Rattle.words.specs.Bytes.{recordIn}
+use Rattle.words.specs.Bytes.{recordIn, recordsIn}
 use Rattle.words.proofs.Tests.{pick-true}
 use Rattle.words.proofs.Checks.{value-met}
 use Rattle.words.proofs.Stages.{met-both, rest-outcome}
@@ -26,7 +26,6 @@ use Rattle.challenge.proofs.Challenges.{check-polynomial}
 use Rattle.dealing.specs.Dealing.{addressChecks, judgeSizeChecks, lineChecks, vIn, YIn, rIn, cIn, vsIn, recomputed, dealingFormChecks, rangeChecks, equationChecks, judgeDealingIn}
 use Rattle.share.specs.Share.{membersChecks, shareAdmissionChecks, shareRecomputed, shareFigureChecks, judgeShareIn}
 use Rattle.share.specs.declared.ShareForm.{ShareForm}
-use Rattle.board.specs.Search.{recordsIn}
 use Rattle.board.specs.Board.{oneRecordChecks, recordChecks, lengthChecks, formChecks, boardKeyChecks, boardChecks, linesChecks}
 use Rattle.demand3.specs.Rules.{underRule, UnderOtherRule}
 

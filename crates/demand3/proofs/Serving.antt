@@ -9,6 +9,7 @@ use native.Mathlib.Omega.{arith}
 use lib.ListN.{length, take}
 use lib.Seq.{length-take-le}
 use Rattle.words.specs.Lists.{All, map}
+use Rattle.words.specs.Bytes.{recordsIn, recordAt}
 use Rattle.words.proofs.Lists.{All-to, All-take, Pairwise-to, Pairwise-take, map-length, map-all, map-same, map-comp, take-map}
 use Rattle.field.specs.Polynomial.{valueAt}
 use Rattle.group.specs.declared.Group.{Group}
@@ -17,9 +18,9 @@ use Rattle.sharing.specs.Answer.{recovered}
 use Rattle.sharing.specs.Carried.{Polynomial, Quorum, secretOf, powersAt}
 use Rattle.sharing.specs.declared.Setting.{Setting}
 use Rattle.sharing.proofs.Secret.{recovered-secret}
-use Rattle.records.specs.Layout.{shareKind, addedKind, memberOf, ZOf, recordAt}
+use Rattle.records.specs.Layout.{shareKind, addedKind, memberOf, ZOf}
 use Rattle.share.specs.declared.ShareForm.{ShareForm}
-use Rattle.board.specs.Search.{Ascending, recordsIn}
+use Rattle.board.specs.Search.{Ascending}
 use Rattle.board.proofs.Searches.{filter-up, filter-ascending}
 use Rattle.board.proofs.Order.{Reached, shapes, sorted, members-rise}
 use Rattle.verdicts.specs.Shares.{Judges, isShareIn, sharesIn, recoveredFrom}

@@ -10,13 +10,13 @@ use borrow.Author.Tests.{lt-ltb, ltb-true, leb-true, leb-false}
 use lib.ListN.{length, take}
 use lib.Dec.{leb, ltb}
 use Rattle.words.specs.Checks.{isValue}
+use Rattle.words.specs.Bytes.{recordsIn, recordAt}
 use Rattle.words.proofs.Tests.{false-true, and-true, true-and, pick-true, pick-false}
 use Rattle.words.proofs.Checks.{is-value}
 use Rattle.group.specs.declared.Element.{Element}
 use Rattle.sharing.specs.Answer.{openingIn}
 use Rattle.sharing.specs.declared.Setting.{Setting}
-use Rattle.records.specs.Layout.{openingKind, uOf, recordAt}
-use Rattle.board.specs.Search.{recordsIn}
+use Rattle.records.specs.Layout.{openingKind, uOf}
 use Rattle.board.specs.Board.{openingPlace}
 use Rattle.board.proofs.Order.{Reached, shapes, sorted}
 use Rattle.board.proofs.Places.{at-true, true-at, record-is, only-record}

@@ -10,9 +10,11 @@ use native.Mathlib.Omega.{arith}
 use lib.ListN.{length, take}
 use Rattle.words.specs.Lists.{All, map}
 use Rattle.words.specs.Checks.{value, Met}
+use Rattle.words.specs.Bytes.{recordAt}
 use Rattle.words.proofs.Lists.{All-to, map-same}
 use Rattle.words.proofs.Stages.{front-outcome}
-use Rattle.sharing.specs.Setting.{ProperSetting, takesWhole, settingIn, inRound, withNumbers, roundChecks, judged, members}
+use Rattle.group.specs.Table.{groupsOf, groupOf}
+use Rattle.sharing.specs.Setting.{ProperSetting, takesWhole, settingIn, inRound, withNumbers, roundFigures, roundChecks, judged, members}
 use Rattle.sharing.specs.Carried.{Carries, secretOf}
 use Rattle.sharing.specs.declared.Round.{Round}
 use Rattle.sharing.specs.declared.Setting.{Setting}
@@ -20,7 +22,7 @@ use Rattle.sharing.proofs.Rounds.{round-proper, proper-in-round, carries-in-rou
 use Rattle.sharing.proofs.Theorems.{opening-exactly, secret-of-commitments}
 use Rattle.sums.specs.Sum.{productOf}
 use Rattle.sums.proofs.Sums.{sum-carries, sum-secret}
-use Rattle.records.specs.Layout.{uOf, recordAt}
+use Rattle.records.specs.Layout.{uOf}
 use Rattle.records.proofs.Members.{each-members}
 use Rattle.dealing.specs.Dealing.{vIn, vsIn, YIn}
 use Rattle.share.specs.Share.{openedForm, addedForm}
@@ -153,26 +155,36 @@ module _ {A : Asked} (to : (J : Judges) (S : Setting) (b : List ℕ) (f : ℕ �
   one-round : SameDraw A J
   one-round S P = across S P (S .round) (S .whole)
 
-  draw-in : (T : Round) → Met (roundChecks T) → (b : List ℕ) → drawOn J T b ≡ drawIn J (settingIn T) b
+  draw-in : (T : List ℕ) (R : Round) → Met (roundChecks T R) → (b : List ℕ) → drawOn J T R b ≡ drawIn J (settingIn T R) b
   unfolding drawOn drawIn
-  draw-in T m b = judged-in T (λ S. boardDrawChecks J S b) (λ S. drawValue J S b) m
+  draw-in T R m b = judged-in T R (λ S. boardDrawChecks J S b) (λ S. drawValue J S b) m
 
-  over-rounds : (R : Round) → Met (roundChecks R) → (round first : ℕ)
-      → TwoBoards A J (settingIn R) (settingIn (withNumbers round first R)) (drawOn J R) (drawOn J (withNumbers round first R))
-  unfolding roundChecks
-  over-rounds R m round first b c f₁ f₂ K L M l =
-      let d = across (settingIn R) (round-proper R m) round (takesWhole first round) b c f₁ f₂ K L M l in
-      (draw-in R m b ∙ d .0, draw-in (withNumbers round first R) m c ∙ d .1)
+  over-rounds : (T : List ℕ) (R : Round) → Met (roundChecks T R) → (round first : ℕ)
+      → TwoBoards A J (settingIn T R) (settingIn T (withNumbers round first R)) (drawOn J T R) (drawOn J T (withNumbers round first R))
+  unfolding roundFigures roundChecks
+  over-rounds T R m round first b c f₁ f₂ K L M l =
+      let d = across (settingIn T R) (round-proper T R m) round (takesWhole first round) b c f₁ f₂ K L M l in
+      (draw-in T R m b ∙ d .0, draw-in T (withNumbers round first R) m c ∙ d .1)
+
+  over-tables : (T : List ℕ) (R : Round) → Met (roundChecks T R) → (T' : List ℕ) → Met (roundChecks T' R)
+      → groupOf (groupsOf T) (R .group) ≡ groupOf (groupsOf T') (R .group)
+      → TwoBoards A J (settingIn T R) (settingIn T' R) (drawOn J T R) (drawOn J T' R)
+  over-tables T R m T' m' e b c f₁ f₂ K L M l =
+      let S : Setting = settingIn T R in
+      let same : S ≡ settingIn T' R = λ j. record { group = e j; number = R .group; n = R .n; t = R .t; round = R .round; whole = S .whole } in
+      let d = subst (λ (X : Setting). TwoBoards A J S X (drawIn J S) (drawIn J X)) same (one-round S (round-proper T R m)) b c f₁ f₂ K L M l in
+      (draw-in T R m b ∙ d .0, draw-in T' R m' c ∙ d .1)
 
   by-round : DrawByRound A J
   unfolding drawOn drawIn judged
-  by-round R =
+  by-round T R =
       record {
-        refuses = λ b k u. sym (front-outcome (roundChecks R) (boardDrawChecks J (settingIn R) b) k u (drawValue J (settingIn R) b));
-        proper = round-proper R;
-        draw-in = draw-in R;
-        same-draw = λ m. over-rounds R m (R .round) (R .first);
-        same-draw-across = over-rounds R;
+        refuses = λ b k u. sym (front-outcome (roundChecks T R) (boardDrawChecks J (settingIn T R) b) k u (drawValue J (settingIn T R) b));
+        proper = round-proper T R;
+        draw-in = draw-in T R;
+        same-draw = λ m. over-rounds T R m (R .round) (R .first);
+        same-draw-across = over-rounds T R;
+        same-draw-by-tables = over-tables T R;
       }
 
 -- ---- by separate secrets, as demand 3 has it, and by either

@@ -10,11 +10,11 @@ use borrow.Author.Tests.{ne-eqb, eqb-true, eqb-false}
 use lib.Dec.{eqb}
 use Rattle.words.specs.Choice.{pick}
 use Rattle.words.specs.Checks.{Outcome, value, refused, isValue}
+use Rattle.words.specs.Bytes.{recordsIn, recordAt}
 use Rattle.words.proofs.Tests.{false-true, pick-true, pick-false}
 use Rattle.sharing.specs.Setting.{ProperSetting}
 use Rattle.sharing.specs.declared.Setting.{Setting}
-use Rattle.records.specs.Layout.{lineKind, dealerOf, recordAt}
-use Rattle.board.specs.Search.{recordsIn}
+use Rattle.records.specs.Layout.{lineKind, dealerOf}
 use Rattle.board.specs.Board.{linesStart, linesEnd, lineCount}
 use Rattle.share.specs.Share.{openedForm}
 use Rattle.verdicts.specs.Shares.{Judges}

@@ -8,8 +8,10 @@ use Prim.Native.Nat.{ℕ, _<_, _≤_}
 use lib.ListN.{length, take}
 use Rattle.words.specs.Lists.{All, map}
 use Rattle.words.specs.Checks.{Outcome, value, refused, Met, FirstUnmet}
+use Rattle.words.specs.Bytes.{recordsIn, recordAt}
 use Rattle.field.specs.Polynomial.{valueAt}
 use Rattle.group.specs.Power.{pow}
+use Rattle.group.specs.Table.{groupsOf, groupOf}
 use Rattle.group.specs.declared.Element.{Element}
 use Rattle.group.specs.declared.Group.{Group}
 use Rattle.sharing.specs.Setting.{ProperSetting, settingIn, inRound, withNumbers, roundChecks}
@@ -18,8 +20,8 @@ use Rattle.sharing.specs.Carried.{Carries, secretOf}
 use Rattle.sharing.specs.declared.Round.{Round}
 use Rattle.sharing.specs.declared.Setting.{Setting}
 use Rattle.sums.specs.Sum.{productOf, sumOf}
-use Rattle.records.specs.Layout.{lineKind, openingKind, dealerOf, memberOf, uOf, ZOf, recordAt}
-use Rattle.board.specs.Search.{Ascending, recordsIn}
+use Rattle.records.specs.Layout.{lineKind, openingKind, dealerOf, memberOf, uOf, ZOf}
+use Rattle.board.specs.Search.{Ascending}
 use Rattle.board.specs.Board.{boardChecks, lineCount}
 use Rattle.verdicts.specs.Shares.{Judges, recoveredFrom}
 use Rattle.verdicts.specs.Verdict.{dealingAnswer, isAccepted, commitmentsOf, isShareBy, sharesBy, secretBy, verdictOn, verdictsOn}
@@ -175,17 +177,21 @@ SameDrawAcross A J =
     (S : Setting) → ProperSetting S → (round : ℕ) (whole : Bool)
     → TwoBoards A J S (inRound round whole S) (drawIn J S) (drawIn J (inRound round whole S))
 
--- ---- over a round
--- what the board judge answers: it refuses a round that 1 or 2 refuses by that number. The setting of any other is proper, and the
--- board judge answers what it answers there, so F holds of its answers: for two boards of the round, and for two rounds whose numbers and
--- first rounds under the new rule are any
-pub record DrawOverRound (A : Asked) (J : Judges) (R : Round) : Type 0 where
-  pub refuses : (b : List ℕ) (k : ℕ) → FirstUnmet k (roundChecks R) → drawOn J R b ≡ refused k
-  pub proper : Met (roundChecks R) → ProperSetting (settingIn R)
-  pub draw-in : Met (roundChecks R) → (b : List ℕ) → drawOn J R b ≡ drawIn J (settingIn R) b
-  pub same-draw : Met (roundChecks R) → TwoBoards A J (settingIn R) (settingIn R) (drawOn J R) (drawOn J R)
-  pub same-draw-across : Met (roundChecks R) → (round first : ℕ)
-      → TwoBoards A J (settingIn R) (settingIn (withNumbers round first R)) (drawOn J R) (drawOn J (withNumbers round first R))
+-- ---- over a table and a round
+-- what the board judge answers: it refuses a table or a round that their checks refuse by that number. The setting of any other is proper,
+-- whichever group of an accepted table it has, and the board judge answers what it answers there, so F holds of its answers: for two boards
+-- of the round, for two rounds whose numbers and first rounds under the new rule are any, and for two offices with tables of their own, where
+-- both have the same group under the round's number
+pub record DrawOverRound (A : Asked) (J : Judges) (T : List ℕ) (R : Round) : Type 0 where
+  pub refuses : (b : List ℕ) (k : ℕ) → FirstUnmet k (roundChecks T R) → drawOn J T R b ≡ refused k
+  pub proper : Met (roundChecks T R) → ProperSetting (settingIn T R)
+  pub draw-in : Met (roundChecks T R) → (b : List ℕ) → drawOn J T R b ≡ drawIn J (settingIn T R) b
+  pub same-draw : Met (roundChecks T R) → TwoBoards A J (settingIn T R) (settingIn T R) (drawOn J T R) (drawOn J T R)
+  pub same-draw-across : Met (roundChecks T R) → (round first : ℕ)
+      → TwoBoards A J (settingIn T R) (settingIn T (withNumbers round first R)) (drawOn J T R) (drawOn J T (withNumbers round first R))
+  pub same-draw-by-tables : Met (roundChecks T R) → (T' : List ℕ) → Met (roundChecks T' R)
+      → groupOf (groupsOf T) (R .group) ≡ groupOf (groupsOf T') (R .group)
+      → TwoBoards A J (settingIn T R) (settingIn T' R) (drawOn J T R) (drawOn J T' R)
 
 abbrev pub DrawByRound : Asked → Judges → Type 0
-DrawByRound A J = (R : Round) → DrawOverRound A J R
+DrawByRound A J = (T : List ℕ) (R : Round) → DrawOverRound A J T R

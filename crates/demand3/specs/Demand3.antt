@@ -1,6 +1,7 @@
 -- Demand 3 whole, sentence by sentence: A to E on one dealing's commitments, F on two boards. Each is stated over what the operations
 -- answer, for every proper setting: any proper group whose figures fit a word, with any n and t in their ranges, in any round and under
--- either rule. The two last lines read it off for every round that 1 and 2 do not refuse, whatever its two numbers are.
+-- either rule. The two last lines read it off for every group of every accepted table, the built-in ones among them,
+-- with any n and t that 2 does not refuse, whatever the round's two numbers are.
 use Rattle.sharing.specs.Claims.{AlwaysCarried, UncarriedOneValue, CarriedPasses, CarriedExactly, OpeningExactly, QuorumRecovers, RoundBySetting}
 use Rattle.verdicts.specs.Shares.{judges}
 use Rattle.demand3.specs.Claims.{AllRecoverable, SameDraw, SameDrawAcross, DrawByRound}
@@ -24,7 +25,7 @@ pub record Demand3 : Type 0 where
   pub same-draw : SameDraw AllRecoverable judges
   -- F for two boards of two rounds, each under either rule.
   pub same-draw-across : SameDrawAcross AllRecoverable judges
-  -- A to E over a round: each operation answers what it answers in the round's setting, which is proper.
+  -- A to E over a table and a round: each operation answers what it answers in their setting, which is proper.
   pub round-by-setting : RoundBySetting
-  -- F over a round: what the board judge answers.
+  -- F over a table and a round: what the board judge answers.
   pub draw-by-round : DrawByRound AllRecoverable judges

@@ -10,7 +10,7 @@ use lib.Dec.{leb, eqb}
 use Rattle.words.specs.Choice.{pick}
 use Rattle.words.specs.Lists.{all, map, upFrom}
 use Rattle.words.specs.Checks.{Check, _unless_, Outcome, outcome, Met}
-use Rattle.words.specs.Bytes.{bigEndian, recordIn}
+use Rattle.words.specs.Bytes.{bigEndian, recordIn, recordsIn, recordAt}
 use Rattle.words.specs.declared.Record.{Record}
 use Rattle.sha256.specs.Hash.{hash}
 use Rattle.group.specs.Element.{isElement, isExponent}
@@ -19,13 +19,12 @@ use Rattle.group.specs.declared.Group.{Group}
 use Rattle.sharing.specs.Setting.{ProperSetting, isMember, members}
 use Rattle.sharing.specs.Answer.{degreeProduct}
 use Rattle.sharing.specs.declared.Setting.{Setting}
-use Rattle.records.specs.Layout.{shareKind, addedKind, isKeyRecord, isLineRecord, isOpeningRecord, isShareRecord, dealerOf, memberOf, ZOf, shareC, shareR, entry, recordAt, recordOf}
+use Rattle.records.specs.Layout.{shareKind, addedKind, isKeyRecord, isLineRecord, isOpeningRecord, isShareRecord, dealerOf, memberOf, ZOf, shareC, shareR, entry, recordOf}
 use Rattle.records.specs.Keys.{isKey}
 use Rattle.challenge.specs.Message.{dealingTag, shareTag, coefficientTag, dealingFigures, shareFigures, coefficientFigures, roundlessMessage}
 use Rattle.equality.specs.Equality.{announced}
 use Rattle.dealing.specs.Dealing.{addressChecks, judgeSizeChecks, isLineOf, vIn, YIn, rIn, cIn, vsIn, rangeChecks}
 use Rattle.share.specs.Share.{openedForm, shareInputChecks, isShareFor}
-use Rattle.board.specs.Search.{recordsIn}
 use Rattle.board.specs.Board.{inOrder, lengthChecks, hasKey, keysIn, boardChecks}
 use Rattle.verdicts.specs.Shares.{Judges, judges}
 use Rattle.verdicts.specs.Verdict.{verdictOn, verdictsOn}

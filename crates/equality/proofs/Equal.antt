@@ -14,8 +14,7 @@ use Rattle.group.specs.Element.{isElement, isExponent, Proper}
 use Rattle.group.specs.declared.Group.{Group}
 use Rattle.group.proofs.Powers.{pow-below, pow-none}
 use Rattle.group.proofs.Elements.{exponent-true, true-exponent, power-element, power-of-sum, power-of-product}
-use Rattle.group.proofs.Table.{table-proper}
-use Rattle.group.proofs.Answers.{in-group-exactly}
+use Rattle.group.proofs.Answers.{met-sound, in-group-exactly}
 use Rattle.equality.specs.Equality.{announced, response, equalityChecks, equalityIn, equalityOutcome}
 use Rattle.equality.specs.Claims.{Holds, EqualityExactly, EqualityComplete, EqualityByNumber, proofOf}
 use Rattle.equality.specs.declared.Equality.{Equality}
@@ -90,6 +89,6 @@ equality-complete G P b1 b2 e w c m1 m2 l =
 
 pub equality-by-number : EqualityByNumber
 unfolding equalityOutcome equalityIn
-equality-by-number k E =
-    let by = in-group-exactly {A = Unit} k (λ G. equalityChecks G E) (λ G. tt) tt in
-    (λ e. let w = by .0 e in (w .0, table-proper k (w .0), w .1), λ w. by .1 (w .0, w .2))
+equality-by-number T k E =
+    let by = in-group-exactly {A = Unit} T k (λ G. equalityChecks G E) (λ G. tt) tt in
+    (λ e. let w = by .0 e in (w .0, met-sound T k (w .0) .proper, w .1), λ w. by .1 (w .0, w .2))

@@ -2,13 +2,13 @@
 -- group a written one is accepted. EqualityByNumber reads both off for the group of a number.
 use mathlib.Core.Path.{_≡_}
 use mathlib.Core.Bool.{true}
-use mathlib.Core.List.{[], _∷_}
+use mathlib.Core.List.{List, [], _∷_}
 use mathlib.Core.Logic.{_↔_}
 use Prim.Native.Nat.{ℕ, _<_}
 use Rattle.words.specs.Lists.{All}
-use Rattle.words.specs.Checks.{value}
+use Rattle.words.specs.Checks.{value, Met}
 use Rattle.group.specs.Power.{pow}
-use Rattle.group.specs.Table.{isGroup, groupOf}
+use Rattle.group.specs.Table.{groupsOf, groupOf, groupChecks}
 use Rattle.group.specs.Element.{isElement, Proper}
 use Rattle.group.specs.declared.Group.{Group}
 use Rattle.equality.specs.Equality.{announced, response, equalityIn, equalityOutcome}
@@ -46,8 +46,9 @@ EqualityComplete =
     (G : Group) → Proper G → (b1 b2 e w c : ℕ) → isElement G b1 ≡ true → isElement G b2 ≡ true → c < G .q
     → equalityIn G (proofOf G b1 b2 e w c) ≡ value tt
 
--- a proof is accepted for a number exactly if it is a group's and that group, which is proper, accepts the proof
+-- a proof is accepted for a table and a number exactly if neither is refused and the group of the number, which is proper, accepts the proof
 abbrev pub EqualityByNumber : Type 0
 EqualityByNumber =
-    (k : ℕ) (E : Equality)
-    → (equalityOutcome k E ≡ value tt) ↔ ((isGroup k ≡ true) × Proper (groupOf k) × (equalityIn (groupOf k) E ≡ value tt))
+    (T : List ℕ) (k : ℕ) (E : Equality)
+    → (equalityOutcome T k E ≡ value tt)
+    ↔ (Met (groupChecks T k) × Proper (groupOf (groupsOf T) k) × (equalityIn (groupOf (groupsOf T) k) E ≡ value tt))

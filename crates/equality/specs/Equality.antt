@@ -38,6 +38,6 @@ equalityChecks G E =
 unfoldable pub equalityIn : Group → Equality → Outcome (Unit {0})
 equalityIn G E = outcome (equalityChecks G E) tt
 
--- in the group of number k
-unfoldable pub equalityOutcome : ℕ → Equality → Outcome (Unit {0})
-equalityOutcome k E = inGroup k (λ G. equalityChecks G E) (λ G. tt)
+-- in the group of number k of the table T
+unfoldable pub equalityOutcome : List ℕ → ℕ → Equality → Outcome (Unit {0})
+equalityOutcome T k E = inGroup T k (λ G. equalityChecks G E) (λ G. tt)

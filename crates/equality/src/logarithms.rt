@@ -56,12 +56,12 @@ pub fn equality_in(gr: Group, e: Equality) -> CheckAnswer
     passed_if(equations_hold(gr, e), 10)
 }
 
-// One proof with lent figures. Refused: 1 no group of that number; 6 a figure that is no element; 7 c or r not below q;
-// 10 an equation for a1 or a2 fails.
-pub fn equality_check(number: u32, e: Equality) -> CheckAnswer
-    ensures { λ r. ⌜ checkOutcomeOf r ≡ equalityOutcome number e ⌝ }
+// One proof with lent figures. Refused: 3, 4, 20, 21 and 1 as group_of; 6 a figure that is no element; 7 c or r not below q; 10 an equation
+// for a1 or a2 fails.
+pub fn equality_check(table: &[u8], number: u32, e: Equality) -> CheckAnswer
+    ensures { λ r. ⌜ checkOutcomeOf r ≡ equalityOutcome (now (table .entry)) number e ⌝ }
 {
-    match group_of(number) {
+    match group_of(table, number) {
         GroupAnswer::Refused(k) => CheckAnswer::Refused(k),
         GroupAnswer::Value(gr) => equality_in(gr, e),
     }

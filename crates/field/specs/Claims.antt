@@ -1,5 +1,6 @@
 -- What is claimed of primes, residues and polynomials. Every law on polynomials is of numbers below any prime q.
 use mathlib.Core.Path.{_≡_}
+use mathlib.Core.Bool.{true}
 use mathlib.Core.List.{List}
 use mathlib.Core.Logic.{_↔_, _⊎_}
 use Prim.Native.Nat.{ℕ, suc, _+_, _%_, _<_, _≤_, _*_}
@@ -7,11 +8,15 @@ use lib.ListN.{length, getD}
 use lib.Dec.{T}
 use Rattle.words.specs.Lists.{All, Distinct, Below, map, upFrom}
 use Rattle.field.specs.Residue.{mul, inv, residueOps}
-use Rattle.field.specs.Prime.{Prime, trialDivision}
+use Rattle.field.specs.Prime.{Prime, isPrime, trialDivision}
 use Rattle.field.specs.Algebra.{Ops, Field, Hom}
 use Rattle.field.specs.Polynomial.{dot, divided, scaled, products, atZero, valueAt}
 
 -- ---- primes and residues
+-- the test decides primality
+abbrev pub PrimeExactly : Type 0
+PrimeExactly = (m : ℕ) → (isPrime m ≡ true) ↔ Prime m
+
 -- what passes trial division is prime
 abbrev pub TrialDivision : Type 0
 TrialDivision = (k m : ℕ) → T (trialDivision k m) → Prime m

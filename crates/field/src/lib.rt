@@ -1,9 +1,13 @@
-// Arithmetic on residues modulo m. A product is taken in 64 bits.
+// Arithmetic on residues modulo m, where a product is taken in 64 bits, and the test of a prime.
 ghost use mathlib.Core.Path.{_≡_};
 ghost use Prim.Native.Nat.{_<_};
 ghost use Rattle.field.specs.Residue.{sub, mul, inv};
 ghost use Rattle.field.specs.Prime.{Prime};
 ghost use Rattle.field.specs.Polynomial.{valueAt};
+
+mod prime;
+
+pub use prime::is_prime;
 
 // Internal: callers ensure that both figures are below m.
 pub fn sub(m: u32, a: u32, b: u32) -> u32

@@ -1,2 +1,3 @@
--- The proof of the table in specs/ByHand.antt.
+-- The proofs of the figures in specs/ByHand.antt and specs/OwnTable.antt.
 pub mod ByHand
+pub mod OwnTable

@@ -7,7 +7,7 @@ use Prim.Native.Nat.{ℕ}
 use Rattle.words.specs.Lists.{map}
 use Rattle.words.specs.Checks.{value, refused, Met}
 use Rattle.group.specs.Power.{pow}
-use Rattle.group.specs.Table.{isGroup, groupOf}
+use Rattle.group.specs.Table.{groupsOf, groupOf, groupChecks}
 use Rattle.group.specs.Element.{isElement}
 use Rattle.group.specs.Answer.{powerOutcome}
 use Rattle.group.specs.declared.Element.{Element}
@@ -84,7 +84,7 @@ proofWith r =
 -- ---- the table
 pub record ByHand : Type 0 where
   -- the setting below is that of the round, and over the round the operations answer what they answer in it
-  pub over-round : AnswersIn small smallRound
+  pub over-round : AnswersIn small [] smallRound
   -- ---- commitments, shares, secret
   -- * v = 9, 16, 8, 4
   pub v : map (writtenV smallGroup polynomial) (members 4) ≡ commitments
@@ -127,20 +127,20 @@ pub record ByHand : Type 0 where
   pub r : writtenR smallGroup polynomial (3 ∷ []) 5 1 ≡ 7
   pub a1 : announced smallGroup (smallGroup .g .0) 9 5 7 ≡ 18
   pub a2 : announced smallGroup 12 8 5 7 ≡ 3
-  pub response-7 : equalityOutcome 1 (proofWith 7) ≡ value tt
+  pub response-7 : equalityOutcome [] 1 (proofWith 7) ≡ value tt
   -- * r = 8 is refused 10
-  pub response-8 : equalityOutcome 1 (proofWith 8) ≡ refused 10
+  pub response-8 : equalityOutcome [] 1 (proofWith 8) ≡ refused 10
   -- ---- elements, exponents, rounds
   -- * 22 is refused 6: its 11th power is 22
-  pub base-22 : (e : ℕ) → powerOutcome 1 (element 22) (exponent e) ≡ refused 6
+  pub base-22 : (e : ℕ) → powerOutcome [] 1 (element 22) (exponent e) ≡ refused 6
   pub power-22 : pow (smallGroup .p) 22 11 ≡ 22
   -- exponent 10 of 4 gives 6; exponent 11: 7
-  pub exponent-10 : powerOutcome 1 (element 4) (exponent 10) ≡ value (element 6)
-  pub exponent-11 : powerOutcome 1 (element 4) (exponent 11) ≡ refused 7
+  pub exponent-10 : powerOutcome [] 1 (element 4) (exponent 10) ≡ value (element 6)
+  pub exponent-11 : powerOutcome [] 1 (element 4) (exponent 11) ≡ refused 7
   -- n = 10 passes, 11: 2
-  pub round-10 : Met (roundChecks (roundOf 10))
-  pub round-11 : (vs : List ℕ) (u : ℕ) → openingOutcome (roundOf 11) vs u ≡ refused 2
+  pub round-10 : Met (roundChecks [] (roundOf 10))
+  pub round-11 : (vs : List ℕ) (u : ℕ) → openingOutcome [] (roundOf 11) vs u ≡ refused 2
   -- ---- not of that section: 1 as a figure
-  -- in each group v = 1 and Y = 1 are proper; as a key 1 is not
-  pub element-1 : (k : ℕ) → isGroup k ≡ true → isElement (groupOf k) 1 ≡ true
+  -- in each group of an accepted table v = 1 and Y = 1 are proper; as a key 1 is not
+  pub element-1 : (T : List ℕ) (k : ℕ) → Met (groupChecks T k) → isElement (groupOf (groupsOf T) k) 1 ≡ true
   pub key-1 : (G : Group) → isKey G 1 ≡ false

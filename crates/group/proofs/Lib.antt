@@ -3,4 +3,5 @@ pub mod Powers
 pub mod Elements
 pub mod Logarithm
 pub mod Table
+pub mod Turns
 pub mod Answers

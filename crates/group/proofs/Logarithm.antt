@@ -19,9 +19,9 @@ use Rattle.field.proofs.Inverses.{mul-inv}
 use Rattle.field.proofs.Theorems.{root-bound}
 use Rattle.group.specs.Power.{pow}
 use Rattle.group.specs.Element.{isElement, Generator, Proper}
-use Rattle.group.specs.Claims.{SamePower, ElementsArePowers, Logarithm}
+use Rattle.group.specs.Claims.{SamePower, ElementsArePowers, Logarithm, KnownLogarithm}
 use Rattle.group.specs.declared.Group.{Group}
-use Rattle.group.proofs.Powers.{pow-below, pow-none, pow-one, pow-next, one-power, pow-period}
+use Rattle.group.proofs.Powers.{pow-below, pow-none, pow-one, pow-next, one-power, pow-product, pow-period}
 use Rattle.group.proofs.Elements.{element-true, generator-element, power-element, power-of-sum, power-of-product}
 
 -- ---- the polynomial x to the power q minus 1, modulo p
@@ -183,3 +183,13 @@ module _ (G : Group) (P : Proper G) (b : ℕ) (B : Generator G b) where
 
 pub elements-are-powers : ElementsArePowers
 elements-are-powers G P b B v = (logarithm G P b B v, power-is-element G P b B v)
+
+-- ---- both generators
+pub known-logarithm : KnownLogarithm
+known-logarithm G L e =
+    let p : ℕ = G .p in
+    let g : ℕ = G .g .0 in
+    sym (pow-product p g e (L .log))
+    ∙ ap (pow p g) (N.mul-comm e (L .log))
+    ∙ pow-product p g (L .log) e
+    ∙ ap (λ (x : ℕ). pow p x e) (sym (L .power))

@@ -1,17 +1,78 @@
--- What is claimed of powers and elements, for every proper group. A law on a generator b holds of g and of h.
+-- What is claimed of tables of groups; and of powers and elements, for every proper group. A law on a generator b holds of g and of h.
 use mathlib.Core.Path.{_≡_}
 use mathlib.Core.Bool.{true}
+use mathlib.Core.List.{List, [], _++_}
 use mathlib.Core.Logic.{_↔_}
-use Prim.Native.Nat.{ℕ, _%_, _^_, _<_}
+use Prim.Native.Nat.{ℕ, suc, _-_, _%_, _^_, _≤_, _<_}
+use lib.ListN.{length}
+use Rattle.words.specs.Lists.{All, Below}
+use Rattle.words.specs.Checks.{Check, Met}
+use Rattle.words.specs.Bytes.{recordBytes, recordsIn, recordAt}
+use Rattle.words.specs.declared.Record.{Record}
+use Rattle.field.specs.Prime.{Prime}
 use Rattle.field.specs.Residue.{add, mul}
 use Rattle.group.specs.Power.{pow, halvesPower}
-use Rattle.group.specs.Table.{isGroup, groupOf}
+use Rattle.group.specs.Table.{groupLayout, groupAt, groupsOf, tableChecks, inGroup, inGroupElse}
 use Rattle.group.specs.Element.{isElement, Generator, Proper}
 use Rattle.group.specs.declared.Group.{Group}
 
--- the groups of the table are proper
+-- ---- tables of groups
+-- from 2 to p - 1, with 1 as power q
+pub record Chosen (G : Group) (b : ℕ) : Type 0 where
+  pub above-one : 1 < b
+  pub low : b < G .p
+  pub order : pow (G .p) b (G .q) ≡ 1
+
+-- a group as the request asks for it
+pub record IsOwnGroup (G : Group) : Type 0 where
+  pub prime-q : Prime (G .q)
+  pub odd-q : G .q % 2 ≡ 1
+  pub prime-p : Prime (G .p)
+  pub divides : (G .p - 1) % G .q ≡ 0
+  pub g-chosen : Chosen G (G .g .0)
+  pub h-chosen : Chosen G (G .h .0)
+  pub distinct : G .g .0 ≡ G .h .0 → ⊥
+
+-- kind 7, this number, four figures, and 0 in words 6 and 7
+abbrev pub IsOwnRecord : ℕ → Record → Type 0
+IsOwnRecord number r = r ≡ groupLayout number (r .w2) (r .w3) (r .w4) (r .w5)
+
+-- whole records, at most 8, numbered 1 upwards without gaps, each with a group as the request asks for it
+pub record IsTable (T : List ℕ) : Type 0 where
+  pub whole : length T % 32 ≡ 0
+  pub most : recordsIn T ≤ 8
+  pub records : (i : ℕ) → i < recordsIn T → IsOwnRecord (suc i) (recordAt T i)
+  pub groups : (i : ℕ) → i < recordsIn T → IsOwnGroup (groupAt T i)
+
+-- bytes are accepted as a table exactly if they are one
+abbrev pub TableExactly : Type 0
+TableExactly = (T : List ℕ) → Below 256 T → Met (tableChecks T) ↔ IsTable T
+
+-- and each group of an accepted table is proper, the built-in ones among them, which no bytes stand for
 abbrev pub TableProper : Type 0
-TableProper = (k : ℕ) → isGroup k ≡ true → Proper (groupOf k)
+TableProper = (T : List ℕ) → Met (tableChecks T) → All Proper (groupsOf T)
+
+-- of an accepted table nothing but its groups enters: another one with the same groups gives every operation the same answer, and leaves
+-- the same in a lent list
+pub record SameByTable (T₁ T₂ : List ℕ) : Type 1 where
+  pub answer : {A : Type 0} (k : ℕ) (checks : Group → List Check) (answer : Group → A) → inGroup T₁ k checks answer ≡ inGroup T₂ k checks answer
+  pub lent : {A : Type 0} (k : ℕ) (checks : Group → List Check) (new : Group → A) (old : A)
+      → inGroupElse T₁ k checks new old ≡ inGroupElse T₂ k checks new old
+
+abbrev pub SameGroups : Type 1
+SameGroups =
+    (T₁ T₂ : List ℕ) → Met (tableChecks T₁) → Met (tableChecks T₂) → groupsOf T₁ ≡ groupsOf T₂ → SameByTable T₁ T₂
+
+-- the built-in groups as a table
+abbrev pub builtInTable : List ℕ
+builtInTable =
+    recordBytes (groupLayout 1 23 11 4 9)
+    ++ recordBytes (groupLayout 2 2039 1019 4 9)
+    ++ recordBytes (groupLayout 3 4294967087 2147483543 4 9)
+
+-- it is accepted, as no bytes are, and has the same groups
+abbrev pub BuiltInTable : Type 0
+BuiltInTable = Met (tableChecks []) × Met (tableChecks builtInTable) × (groupsOf builtInTable ≡ groupsOf [])
 
 -- the power from halves is the power
 abbrev pub HalvesPower : Type 0
@@ -53,6 +114,12 @@ pub record Logarithm (G : Group) (b v : ℕ) : Type 0 where
 abbrev pub ElementsArePowers : Type 0
 ElementsArePowers =
     (G : Group) → Proper G → (b : ℕ) → Generator G b → (v : ℕ) → (isElement G v ≡ true) ↔ Logarithm G b v
+
+-- whoever knows the logarithm of h to the base g has, from a commitment to an exponent, h to that exponent: a power of the commitment
+abbrev pub KnownLogarithm : Type 0
+KnownLogarithm =
+    (G : Group) (L : Logarithm G (G .g .0) (G .h .0)) (e : ℕ)
+    → pow (G .p) (pow (G .p) (G .g .0) e) (L .log) ≡ pow (G .p) (G .h .0) e
 
 -- ---- elements stay elements
 abbrev pub ProductElement : Type 0

@@ -1,15 +1,19 @@
-// Groups of prime order inside the residues modulo a prime: their table, and the operation power.
+// Groups of prime order inside the residues modulo a prime: tables of them, and the operation power.
 ghost use mathlib.Core.Path.{_≡_};
-ghost use Rattle.group.specs.Table.{groupOutcomeOf, groupOutcome};
-ghost use Rattle.group.specs.Answer.{elementOutcomeOf, powerOutcome};
+ghost use Rattle.group.specs.Answer.{elementOutcomeOf, powerIn, powerOutcome};
 
 mod arithmetic;
+mod groups;
 mod membership;
 
+pub use groups::group_in;
+pub use groups::group_of;
+pub use groups::table_refusal;
 pub use membership::all_elements;
 pub use membership::all_exponents;
 pub use membership::is_element;
 pub use membership::is_exponent;
+pub use membership::is_generator;
 
 // A residue modulo q.
 pub struct Exponent(pub u32);
@@ -35,40 +39,10 @@ pub enum ElementAnswer {
     Refused(u32),
 }
 
-// The group of a number.
-pub fn group_of(number: u32) -> GroupAnswer
-    ensures { λ r. ⌜ groupOutcomeOf r ≡ groupOutcome number ⌝ }
+// An element to the power of an exponent in a group: 6 and 7.
+pub fn power_in(gr: Group, base: Element, exponent: Exponent) -> ElementAnswer
+    ensures { λ r. ⌜ elementOutcomeOf r ≡ powerIn gr base exponent ⌝ }
 {
-    match number {
-        1 => GroupAnswer::Value(Group {
-            p: 23,
-            q: 11,
-            g: Element(4),
-            h: Element(9),
-        }),
-        2 => GroupAnswer::Value(Group {
-            p: 2039,
-            q: 1019,
-            g: Element(4),
-            h: Element(9),
-        }),
-        3 => GroupAnswer::Value(Group {
-            p: 4294967087,
-            q: 2147483543,
-            g: Element(4),
-            h: Element(9),
-        }),
-        _ => GroupAnswer::Refused(1),
-    }
-}
-
-// An element to the power of an exponent. Refused: 1 no group of that number; 6 the base is no element; 7 the exponent is not below q.
-pub fn power(number: u32, base: Element, exponent: Exponent) -> ElementAnswer
-    ensures { λ r. ⌜ elementOutcomeOf r ≡ powerOutcome number base exponent ⌝ }
-{
-    let GroupAnswer::Value(gr) = group_of(number) else {
-        return ElementAnswer::Refused(1);
-    };
     if !is_element(gr, base) {
         return ElementAnswer::Refused(6);
     }
@@ -76,4 +50,14 @@ pub fn power(number: u32, base: Element, exponent: Exponent) -> ElementAnswer
         return ElementAnswer::Refused(7);
     }
     ElementAnswer::Value(base.power(gr, exponent))
+}
+
+// An element to the power of an exponent. Refused: 3, 4, 20, 21 and 1 as group_of; 6 the base is no element; 7 the exponent is not below q.
+pub fn power(table: &[u8], number: u32, base: Element, exponent: Exponent) -> ElementAnswer
+    ensures { λ r. ⌜ elementOutcomeOf r ≡ powerOutcome (now (table .entry)) number base exponent ⌝ }
+{
+    match group_of(table, number) {
+        GroupAnswer::Refused(k) => ElementAnswer::Refused(k),
+        GroupAnswer::Value(gr) => power_in(gr, base, exponent),
+    }
 }

@@ -1,7 +1,7 @@
 // Tests of posted figures: whether a number is an element, or an exponent, and whether each of a list is.
 ghost use mathlib.Core.Path.{_≡_};
 ghost use Rattle.words.specs.Lists.{all};
-ghost use Rattle.group.specs.Element.{isElement, isExponent};
+ghost use Rattle.group.specs.Element.{isElement, isGenerator, isExponent};
 use crate::Element;
 use crate::Exponent;
 use crate::Group;
@@ -20,6 +20,13 @@ pub fn is_element(gr: Group, v: Element) -> bool
         return false;
     }
     raise(p, v, Exponent(gr.q)) == 1
+}
+
+// Whether b is an element other than 1.
+pub fn is_generator(gr: Group, b: Element) -> bool
+    ensures { λ r. ⌜ r ≡ isGenerator gr (b .0) ⌝ }
+{
+    is_element(gr, b) && b.0 != 1
 }
 
 // Whether e is below q.

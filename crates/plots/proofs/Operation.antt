@@ -1,16 +1,17 @@
 -- What the checks of the operation settle, and what the lent list holds afterwards.
 use mathlib.Core.Path.{_≡_, refl, sym, _∙_}
 use mathlib.Core.Bool.{Bool, true, false, _||_}
-use mathlib.Core.List.{List, _∷_}
+use mathlib.Core.List.{List, _++_}
 use Prim.Native.Nat.{ℕ, _≤_, _<_}
 use native.Mathlib.Omega.{arith}
 use borrow.Author.Tests.{leb-true, eqb-true}
 use lib.Dec.{leb, eqb}
 use lib.ListN.{length}
-use Rattle.words.specs.Checks.{Check, _unless_, value, refused, Met}
+use Rattle.words.specs.Checks.{Check, value, refused, Met}
 use Rattle.words.proofs.Tests.{and-true}
+use Rattle.words.proofs.Stages.{met-both}
 use Rattle.words.proofs.Checks.{if-met, if-unmet, value-exactly, refused-exactly}
-use Rattle.group.specs.Table.{isGroup, groupOf, inGroup, inGroupElse}
+use Rattle.group.specs.Table.{groupsOf, groupOf, groupChecks, inGroup, inGroupElse}
 use Rattle.group.specs.declared.Element.{Element}
 use Rattle.plots.specs.Picked.{isRadius, picked, plotChecks, pickChecks, pickOutcome, lentPlots}
 use Rattle.plots.specs.Claims.{PickLent, SamePlots}
@@ -42,30 +43,33 @@ module _ (radius N k room : ℕ) where
         size = eqb-true room k (m .1 .1 .0);
       }
 
--- ---- by the number of a group
-module _ (number : ℕ) (v : Element) (radius N k : ℕ) (out : List ℕ) where
-  abbrev checks : List Check
-  checks = 1 unless isGroup number ∷ pickChecks (groupOf number) v radius N k (length out)
+-- ---- by a table and the number of a group
+module _ (T : List ℕ) (number : ℕ) (v : Element) (radius N k : ℕ) (out : List ℕ) where
+  abbrev own : List Check
+  own = pickChecks (groupOf (groupsOf T) number) v radius N k (length out)
 
-  passed-lent : pickOutcome number v radius N k (length out) ≡ value tt
-      → (k ≤ N) × (lentPlots number v radius N k out ≡ picked (v .0) radius N k)
+  passed-lent : pickOutcome T number v radius N k (length out) ≡ value tt
+      → (k ≤ N) × (lentPlots T number v radius N k out ≡ picked (v .0) radius N k)
   unfolding pickOutcome lentPlots inGroup inGroupElse
   passed-lent e =
-      let m = value-exactly Unit checks tt .0 e in
-      (pickable radius N k (length out) (m .1 .1) .k-most, if-met (picked (v .0) radius N k) out checks m)
+      let m = value-exactly Unit (groupChecks T number ++ own) tt .0 e in
+      let w = met-both (groupChecks T number) own m .1 in
+      (pickable radius N k (length out) (w .1) .k-most, if-met (picked (v .0) radius N k) out (groupChecks T number ++ own) m)
 
-  refused-lent : (i : ℕ) → pickOutcome number v radius N k (length out) ≡ refused i → lentPlots number v radius N k out ≡ out
+  refused-lent : (i : ℕ) → pickOutcome T number v radius N k (length out) ≡ refused i → lentPlots T number v radius N k out ≡ out
   unfolding pickOutcome lentPlots inGroup inGroupElse
-  refused-lent i e = if-unmet (picked (v .0) radius N k) out checks i (refused-exactly Unit checks tt i .0 e)
+  refused-lent i e =
+      let cs = groupChecks T number ++ own in
+      if-unmet (picked (v .0) radius N k) out cs i (refused-exactly Unit cs tt i .0 e)
 
 -- ---- the claims
 pub pick-lent : PickLent
-pick-lent number v radius N k out =
+pick-lent T number v radius N k out =
     record {
-      passed = λ e. let w = passed-lent number v radius N k out e in (w .1, picked-exactly (v .0) radius N k (w .0) _ .0 (w .1));
-      kept = refused-lent number v radius N k out;
+      passed = λ e. let w = passed-lent T number v radius N k out e in (w .1, picked-exactly (v .0) radius N k (w .0) _ .0 (w .1));
+      kept = refused-lent T number v radius N k out;
     }
 
 pub same-plots : SamePlots
-same-plots number number' v radius N k out out' e f =
-    passed-lent number v radius N k out e .1 ∙ sym (passed-lent number' v radius N k out' f .1)
+same-plots T T' number number' v radius N k out out' e f =
+    passed-lent T number v radius N k out e .1 ∙ sym (passed-lent T' number' v radius N k out' f .1)

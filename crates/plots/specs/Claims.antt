@@ -45,20 +45,20 @@ PickedStart = (v radius N k m : ℕ) → k ≤ m → take k (picked v radius N m
 
 -- ---- the operation
 -- where it passes, the lent list is the picked one, and such a list; where it refuses, the list is as it was
-pub record Lent (number : ℕ) (v : Element) (radius N k : ℕ) (out : List ℕ) : Type 0 where
-  pub passed : pickOutcome number v radius N k (length out) ≡ value tt
-      → (lentPlots number v radius N k out ≡ picked (v .0) radius N k) × IsPick (v .0) radius N k (lentPlots number v radius N k out)
-  pub kept : (i : ℕ) → pickOutcome number v radius N k (length out) ≡ refused i → lentPlots number v radius N k out ≡ out
+pub record Lent (T : List ℕ) (number : ℕ) (v : Element) (radius N k : ℕ) (out : List ℕ) : Type 0 where
+  pub passed : pickOutcome T number v radius N k (length out) ≡ value tt
+      → (lentPlots T number v radius N k out ≡ picked (v .0) radius N k) × IsPick (v .0) radius N k (lentPlots T number v radius N k out)
+  pub kept : (i : ℕ) → pickOutcome T number v radius N k (length out) ≡ refused i → lentPlots T number v radius N k out ≡ out
 
 abbrev pub PickLent : Type 0
-PickLent = (number : ℕ) (v : Element) (radius N k : ℕ) (out : List ℕ) → Lent number v radius N k out
+PickLent = (T : List ℕ) (number : ℕ) (v : Element) (radius N k : ℕ) (out : List ℕ) → Lent T number v radius N k out
 
--- every office with the same value, radius, N and k has the same list, whatever its group and whatever its list held before
+-- every office with the same value, radius, N and k has the same list, whatever its table and its group and whatever its list held before
 abbrev pub SamePlots : Type 0
 SamePlots =
-    (number number' : ℕ) (v : Element) (radius N k : ℕ) (out out' : List ℕ)
-    → pickOutcome number v radius N k (length out) ≡ value tt → pickOutcome number' v radius N k (length out') ≡ value tt
-    → lentPlots number v radius N k out ≡ lentPlots number' v radius N k out'
+    (T T' : List ℕ) (number number' : ℕ) (v : Element) (radius N k : ℕ) (out out' : List ℕ)
+    → pickOutcome T number v radius N k (length out) ≡ value tt → pickOutcome T' number' v radius N k (length out') ≡ value tt
+    → lentPlots T number v radius N k out ≡ lentPlots T' number' v radius N k out'
 
 -- ---- plots of equal rank
 -- the value 211 gives two plots of radius 15 one rank, and the lower number comes first

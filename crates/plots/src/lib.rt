@@ -108,9 +108,10 @@ pub fn pick_plots_in(
 }
 
 // Picks plots by a draw value: so many (k) of the plots 1 to `total` (N) whose radius is given in metres. Their numbers are written into
-// the lent list, first the plot that comes first. Refused, with the list unchanged: 1 no group of that number; 6 the draw value is no
+// the lent list, first the plot that comes first. Refused, with the list unchanged: 3, 4, 20, 21 and 1 as group_of; 6 the draw value is no
 // element; 15 the radius is not 10 or 15; 16 N is not 1 to 4,096 or k not 1 to N; 3 the list is not k long.
 pub fn pick_plots(
+    table: &[u8],
     number: u32,
     value: Element,
     radius: u32,
@@ -118,10 +119,11 @@ pub fn pick_plots(
     count: u32,
     out: &mut [u32],
 ) -> CheckAnswer
-    ensures { λ r. ⌜ checkOutcomeOf r ≡ pickOutcome number value radius total count (length (now (out .entry))) ⌝ }
-    ensures { λ r. ⌜ now (out .exit) ≡ lentPlots number value radius total count (now (out .entry)) ⌝ }
+    ensures { λ r. ⌜ checkOutcomeOf r
+        ≡ pickOutcome (now (table .entry)) number value radius total count (length (now (out .entry))) ⌝ }
+    ensures { λ r. ⌜ now (out .exit) ≡ lentPlots (now (table .entry)) number value radius total count (now (out .entry)) ⌝ }
 {
-    match group_of(number) {
+    match group_of(table, number) {
         GroupAnswer::Refused(refused) => CheckAnswer::Refused(refused),
         GroupAnswer::Value(gr) => pick_plots_in(gr, value, radius, total, count, out),
     }

@@ -1,5 +1,5 @@
 -- The members 1 to n: a fact of each as a fact of their list, loops over them, and tests of their numbers and keys as facts.
-use mathlib.Core.Path.{_≡_, refl, sym, ap, _∙_, subst}
+use mathlib.Core.Path.{_≡_, refl, sym, ap, _∙_}
 use mathlib.Core.Bool.{Bool, true, false, not}
 use mathlib.Core.List.{List}
 use mathlib.Core.Logic.{_↔_}
@@ -9,9 +9,9 @@ use borrow.Author.Tests.{leb-true, le-leb}
 use lib.ListN.{length, getD, take, drop, set}
 use lib.Dec.{leb, eqb}
 use Rattle.words.specs.Lists.{All, map, all, filled}
-use Rattle.words.proofs.Lists.{All-to, All-at, up-length, up-within, up-at, run-front, run-next}
+use Rattle.words.proofs.Lists.{All-at, up-length, up-at, up-each, each-up, run-front, run-next}
 use Rattle.words.proofs.Tests.{false-true, and-true, true-and, all-true, true-all, all-next, all-stop, all-end}
-use Rattle.group.specs.Element.{isElement}
+use Rattle.group.specs.Element.{isElement, isGenerator}
 use Rattle.group.specs.declared.Group.{Group}
 use Rattle.sharing.specs.Setting.{isMember, members}
 use Rattle.records.specs.Layout.{entry}
@@ -20,12 +20,10 @@ use Rattle.records.specs.Keys.{isKey}
 -- ---- a fact of each member
 module _ (P : ℕ → Type 0) (n : ℕ) where
   members-each : All P (members n) → (i : ℕ) → 1 ≤ i → i ≤ n → P i
-  members-each a i h l =
-      let e : getD (members n) (i - 1) 0 ≡ i = up-at 1 n (i - 1) (omega arith) ∙ omega arith in
-      subst P e (All-at P (members n) (i - 1) 0 (omega (arith, up-length 1 n)) a)
+  members-each a i h l = up-each P 1 n a i h (omega arith)
 
   pub each-members : ((i : ℕ) → 1 ≤ i → i ≤ n → P i) → All P (members n)
-  each-members f = All-to (members n) (λ i s. f i (s .0) (omega (arith, s .1))) (up-within 1 n (1 + n) (omega arith))
+  each-members f = each-up P 1 n (λ i h l. f i h (omega arith))
 
 -- a test of each
 pub members-exactly : (f : ℕ → Bool) (n : ℕ) → (all f (members n) ≡ true) ↔ ((i : ℕ) → 1 ≤ i → i ≤ n → f i ≡ true)
@@ -76,7 +74,7 @@ member-exactly n i = (
 )
 
 pub key-element : (G : Group) (y : ℕ) → isKey G y ≡ true → isElement G y ≡ true
-unfolding isKey
+unfolding isGenerator isKey
 key-element G y e = and-true (isElement G y) (not (eqb y 1)) e .0
 
 -- ---- figures in a list of the members' figures

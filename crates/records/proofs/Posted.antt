@@ -8,7 +8,7 @@ use native.Mathlib.Omega.{arith}
 use lib.ListN.{length, getD, take, drop, length-append}
 use lib.Seq.{take-at, drop-append-add}
 use Rattle.words.specs.Lists.{Below}
-use Rattle.words.specs.Bytes.{recordWords, recordBytes, recordIn}
+use Rattle.words.specs.Bytes.{recordWords, recordBytes, recordIn, recordAt}
 use Rattle.words.specs.declared.Record.{Record}
 use Rattle.words.proofs.Lists.{up-length, up-at}
 use Rattle.words.proofs.Bytes.{record-length, read-back}
@@ -16,7 +16,7 @@ use Rattle.group.specs.Element.{isElement}
 use Rattle.group.proofs.Elements.{element-true}
 use Rattle.sharing.specs.Setting.{ProperSetting, members}
 use Rattle.sharing.specs.declared.Setting.{Setting}
-use Rattle.records.specs.Layout.{recordAt, recordOf, recordsBytes}
+use Rattle.records.specs.Layout.{recordOf, recordsBytes}
 
 -- ---- figures are words
 module _ {S : Setting} (P : ProperSetting S) where
@@ -52,3 +52,7 @@ module _ (f : ℕ → Record) where
   record-back n i h l w =
       let e : getD (members n) (i - 1) 0 ≡ i = up-at 1 n (i - 1) (omega arith) ∙ omega arith in
       ap recordIn (records-part (members n) (i - 1) (omega (arith, up-length 1 n)) ∙ ap (λ (m : ℕ). recordBytes (f m)) e) ∙ read-back (f i) w
+
+-- ---- a member's record, by its index from 0
+pub record-of : (b : List ℕ) (i : ℕ) → recordAt b i ≡ recordOf b (i + 1)
+record-of b i = let e : i ≡ i + 1 - 1 = omega arith in ap (recordAt b) e

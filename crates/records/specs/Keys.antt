@@ -1,16 +1,16 @@
 -- Keys and secret keys, and the stage that tests the members' keys.
-use mathlib.Core.Bool.{Bool, not, _&&_}
+use mathlib.Core.Bool.{Bool, _&&_}
 use mathlib.Core.List.{List, [], _∷_}
 use Prim.Native.Nat.{ℕ}
-use lib.Dec.{leb, ltb, eqb}
+use lib.Dec.{leb, ltb}
 use Rattle.words.specs.Lists.{all}
 use Rattle.words.specs.Checks.{Check, _unless_}
-use Rattle.group.specs.Element.{isElement}
+use Rattle.group.specs.Element.{isGenerator}
 use Rattle.group.specs.declared.Group.{Group}
 
 -- a key: an element that is not 1
 unfoldable pub isKey : Group → ℕ → Bool
-isKey G y = isElement G y && not (eqb y 1)
+isKey G y = isGenerator G y
 
 -- a secret key: 1 to q - 1
 unfoldable pub isSecretKey : Group → ℕ → Bool

@@ -1,10 +1,10 @@
--- The records of a board and of round.set: one layout for each kind, the tests of their form, and records by number and by member.
-use mathlib.Core.Bool.{Bool, _&&_}
+-- The records of a board and of round.set: one layout for each kind, the tests of their form, and records by member.
+use mathlib.Core.Bool.{Bool}
 use mathlib.Core.List.{List, [], _∷_, _++_}
-use Prim.Native.Nat.{ℕ, _-_, _*_}
-use lib.ListN.{getD, take, drop}
+use Prim.Native.Nat.{ℕ, _-_}
+use lib.ListN.{getD}
 use lib.Dec.{eqb}
-use Rattle.words.specs.Bytes.{recordBytes, recordIn}
+use Rattle.words.specs.Bytes.{recordBytes, recordAt, agrees}
 use Rattle.words.specs.declared.Record.{Record}
 
 -- ---- kinds
@@ -106,12 +106,6 @@ abbrev pub setFirst : Record → ℕ
 setFirst r = r .w5
 
 -- ---- form: a record agrees with its kind's layout of its own figures, its own round among them
-unfoldable pub agrees : Record → Record → Bool
-agrees r s =
-    eqb (r .w0) (s .w0)
-    && (eqb (r .w1) (s .w1) && (eqb (r .w2) (s .w2) && (eqb (r .w3) (s .w3)
-    && (eqb (r .w4) (s .w4) && (eqb (r .w5) (s .w5) && (eqb (r .w6) (s .w6) && eqb (r .w7) (s .w7)))))))
-
 abbrev pub isKeyRecord : Record → Bool
 isKeyRecord r = agrees r (keyLayout (memberOf r) (yOf r) (roundOf r))
 
@@ -135,10 +129,6 @@ isOfRound round r = eqb (roundOf r) round
 -- the figure of member i in a list of the members' figures
 unfoldable pub entry : List ℕ → ℕ → ℕ
 entry l i = getD l (i - 1) 0
-
--- the record number k, from 0, of bytes that hold records
-unfoldable pub recordAt : List ℕ → ℕ → Record
-recordAt b k = recordIn (take 32 (drop (32 * k) b))
 
 -- the record of member i among the members' records
 abbrev pub recordOf : List ℕ → ℕ → Record

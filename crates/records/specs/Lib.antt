@@ -1,4 +1,3 @@
--- Records by kind, the members' records, keys, and what is claimed of forms.
+-- Records by kind, the members' records, and keys.
 pub mod Layout
 pub mod Keys
-pub mod Claims

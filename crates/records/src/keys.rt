@@ -7,13 +7,13 @@ ghost use Rattle.records.specs.Keys.{isKey, isSecretKey, keyChecks};
 use group::Element;
 use group::Exponent;
 use group::Group;
-use group::is_element;
+use group::is_generator;
 
 // A key: an element that is not 1.
 pub fn is_key(gr: Group, y: Element) -> bool
     ensures { λ r. ⌜ r ≡ isKey gr (y .0) ⌝ }
 {
-    is_element(gr, y) && y.0 != 1
+    is_generator(gr, y)
 }
 
 pub fn all_keys(gr: Group, ys: &[u32]) -> bool

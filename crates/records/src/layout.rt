@@ -1,12 +1,11 @@
-// One layout for each kind of record, the tests of their form, and a record by its number.
+// One layout for each kind of record, and the tests of their form.
 ghost use mathlib.Core.Path.{_≡_};
-ghost use Prim.Native.Nat.{_+_, _*_, _≤_};
-ghost use lib.ListN.{length};
-ghost use Rattle.records.specs.Layout.{keyLayout, lineLayout, openingLayout, shareLayout, setLayout, recordAt};
-ghost use Rattle.records.specs.Layout.{agrees, isKeyRecord, isLineRecord, isOpeningRecord, isShareRecord, isSetRecord, isOfRound};
+ghost use Rattle.records.specs.Layout.{keyLayout, lineLayout, openingLayout, shareLayout, setLayout};
+ghost use Rattle.records.specs.Layout.{isKeyRecord, isLineRecord, isOpeningRecord, isShareRecord, isSetRecord, isOfRound};
 use group::Element;
 use group::Exponent;
 use words::Record;
+use words::agrees;
 
 pub const KEY: u32 = 1;
 
@@ -117,34 +116,6 @@ pub fn set_record(number: u32, n: u32, t: u32, round: u32, first: u32) -> Record
     }
 }
 
-// Whether all words are the same.
-pub fn agrees(r: Record, s: Record) -> bool
-    ensures { λ a. ⌜ a ≡ agrees r s ⌝ }
-{
-    if r.w0 != s.w0 {
-        return false;
-    }
-    if r.w1 != s.w1 {
-        return false;
-    }
-    if r.w2 != s.w2 {
-        return false;
-    }
-    if r.w3 != s.w3 {
-        return false;
-    }
-    if r.w4 != s.w4 {
-        return false;
-    }
-    if r.w5 != s.w5 {
-        return false;
-    }
-    if r.w6 != s.w6 {
-        return false;
-    }
-    r.w7 == s.w7
-}
-
 pub fn is_key_record(r: Record) -> bool
     ensures { λ a. ⌜ a ≡ isKeyRecord r ⌝ }
 {
@@ -202,15 +173,4 @@ pub fn is_of_round(round: u32, r: Record) -> bool
     ensures { λ a. ⌜ a ≡ isOfRound round r ⌝ }
 {
     r.w7 == round
-}
-
-// The record number k, from 0, of bytes that hold records.
-// Internal: callers ensure that its bytes are there.
-pub fn record_at(b: &[u8], k: usize) -> Record
-    requires { ⌜ 32 * k + 32 ≤ length (now b) ⌝ }
-    ensures { λ r. ⌜ r ≡ recordAt (now (b .entry)) k ⌝ }
-{
-    let from = 32 * k;
-    let to = from + 32;
-    words::read_record(&b[from..to])
 }

@@ -10,7 +10,7 @@ use Rattle.field.specs.Residue.{mul, inv}
 use Rattle.field.proofs.Modular.{mul-comm, mul-assoc}
 use Rattle.field.proofs.Inverses.{mul-inv}
 use Rattle.group.specs.Power.{pow}
-use Rattle.group.specs.Element.{isElement, Proper}
+use Rattle.group.specs.Element.{isElement, isGenerator, Proper}
 use Rattle.group.specs.declared.Group.{Group}
 use Rattle.group.proofs.Powers.{pow-one}
 use Rattle.group.proofs.Elements.{element-true, generator-element, power-element, power-of-product}
@@ -25,7 +25,7 @@ module _ (G : Group) (P : Proper G) where
 
   module _ (x : ℕ) (h : 1 ≤ x) (l : x < G .q) where
     pub key-proper : isKey G (keyOf G x) ≡ true
-    unfolding isKey keyOf
+    unfolding isGenerator isKey keyOf
     key-proper =
         true-and (isElement G (keyOf G x)) _ (power-element G P (G .h .0) x h-element)
         (ap not (ne-eqb (keyOf G x) 1 (λ e. omega (arith, one-exactly G P (G .h .0) (P .h-generates) x l .0 e))))

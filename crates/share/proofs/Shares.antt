@@ -32,7 +32,7 @@ use Rattle.share.specs.declared.ShareForm.{ShareForm}
 use Rattle.share.specs.Share.{keyOf, shareOf, writtenShareC, writtenShareRecord, writtenShare, writeShareChecks, writeShareIn, writeShareOutcome, lentAfterShareIn, lentAfterShare}
 use Rattle.share.specs.Share.{membersChecks, shareInputChecks, shareFormChecks, shareRecomputed, shareAdmissionChecks, shareFigureChecks, judgeShareChecks, judgeShareFiguresIn, judgeShareIn, judgeShareOutcome}
 use Rattle.share.specs.Claims.{AcceptedShare, ShareExactly, FiguresDecide, ShareOfOtherRound, ShareComplete, ShareForOtherRound, LentShare, LentShareKept, SharesByRound}
-use Rattle.records.proofs.Layouts.{laid-agrees}
+use Rattle.words.proofs.Records.{laid-agrees}
 use Rattle.records.proofs.Posted.{member-word, element-word, exponent-word}
 use Rattle.challenge.proofs.Challenges.{challenge-low}
 use Rattle.equality.proofs.Equal.{response-low, announced-back}
@@ -192,24 +192,24 @@ lent-share-kept S F i Y x w out k e =
 -- ---- over a round
 pub shares-by-round : SharesByRound
 unfolding judgeShareOutcome judgeShareIn writeShareOutcome writeShareIn lentAfterShare lentAfterShareIn judged judgedElse
-shares-by-round R =
+shares-by-round T R =
     record {
-      accepted = λ F i y Y b. judged-exactly R (λ S. judgeShareChecks S F i y Y b) (λ S. record { 0 = ZOf (recordIn b) });
-      written = λ F i Y x w room. judged-exactly R (λ S. writeShareChecks S F i Y x w room) (λ S. tt) tt;
-      lent = λ F i Y x w out m. judged-else-in R (λ S. writeShareChecks S F i Y x w (length out)) (λ S. writtenShare S F i Y x w) m out;
+      accepted = λ F i y Y b. judged-exactly T R (λ S. judgeShareChecks S F i y Y b) (λ S. record { 0 = ZOf (recordIn b) });
+      written = λ F i Y x w room. judged-exactly T R (λ S. writeShareChecks S F i Y x w room) (λ S. tt) tt;
+      lent = λ F i Y x w out m. judged-else-in T R (λ S. writeShareChecks S F i Y x w (length out)) (λ S. writtenShare S F i Y x w) m out;
       kept = λ F i Y x w out k e.
-          let checks = roundChecks R ++ writeShareChecks (settingIn R) F i Y x w (length out) in
-          if-unmet (writtenShare (settingIn R) F i Y x w) out checks k (refused-exactly Unit checks tt k .0 e);
+          let checks = roundChecks T R ++ writeShareChecks (settingIn T R) F i Y x w (length out) in
+          if-unmet (writtenShare (settingIn T R) F i Y x w) out checks k (refused-exactly Unit checks tt k .0 e);
       complete = complete;
     }
   where
-    complete : R .round < 2 ^ 32 → (F : ShareForm) → F .kind < 2 ^ 32 → (i Y x w : ℕ) (out : List ℕ) → writeShareOutcome R F i Y x w (length out) ≡ value tt
-        → judgeShareOutcome R F i (keyOf (settingIn R .group) x) Y (lentAfterShare R F i Y x w out) ≡ value (record { 0 = shareOf (settingIn R .group) Y x })
+    complete : R .round < 2 ^ 32 → (F : ShareForm) → F .kind < 2 ^ 32 → (i Y x w : ℕ) (out : List ℕ) → writeShareOutcome T R F i Y x w (length out) ≡ value tt
+        → judgeShareOutcome T R F i (keyOf (settingIn T R .group) x) Y (lentAfterShare T R F i Y x w out) ≡ value (record { 0 = shareOf (settingIn T R .group) Y x })
     complete k F l i Y x w out e =
-        let y = keyOf (settingIn R .group) x in
-        let W = judged-exactly R (λ S. writeShareChecks S F i Y x w (length out)) (λ S. tt) tt .0 e in
-        let lent = judged-else-in R (λ S. writeShareChecks S F i Y x w (length out)) (λ S. writtenShare S F i Y x w) (W .0) out in
-        let b = lentAfterShare R F i Y x w out in
-        judged-in R (λ S. judgeShareChecks S F i y Y b) (λ S. record { 0 = ZOf (recordIn b) }) (W .0)
-        ∙ ap (judgeShareIn (settingIn R) F i y Y) lent
-        ∙ lent-share (settingIn R) (round-proper R (W .0)) k F l i Y x w out (W .1)
+        let y = keyOf (settingIn T R .group) x in
+        let W = judged-exactly T R (λ S. writeShareChecks S F i Y x w (length out)) (λ S. tt) tt .0 e in
+        let lent = judged-else-in T R (λ S. writeShareChecks S F i Y x w (length out)) (λ S. writtenShare S F i Y x w) (W .0) out in
+        let b = lentAfterShare T R F i Y x w out in
+        judged-in T R (λ S. judgeShareChecks S F i y Y b) (λ S. record { 0 = ZOf (recordIn b) }) (W .0)
+        ∙ ap (judgeShareIn (settingIn T R) F i y Y) lent
+        ∙ lent-share (settingIn T R) (round-proper T R (W .0)) k F l i Y x w out (W .1)

@@ -105,20 +105,20 @@ abbrev pub ShareTrue : Type 0
 ShareTrue =
     (G : Group) → Proper G → (x e : ℕ) → 1 ≤ x → x < G .q → shareOf G (pow (G .p) (keyOf G x) e) x ≡ pow (G .p) (G .h .0) e
 
--- ---- over a round: a value exactly if 1 and 2 refuse nothing and it is one in the round's setting; the lent bytes as there, and
--- kept where any number is refused
-pub record ShareByRound (R : Round) : Type 0 where
+-- ---- over a table and a round: a value exactly if their checks refuse nothing and it is one in their setting; the lent bytes as there,
+-- and kept where any number is refused
+pub record ShareByRound (T : List ℕ) (R : Round) : Type 0 where
   pub accepted : (F : ShareForm) (i y Y : ℕ) (b : List ℕ) (Z : Element)
-      → (judgeShareOutcome R F i y Y b ≡ value Z) ↔ (Met (roundChecks R) × (judgeShareIn (settingIn R) F i y Y b ≡ value Z))
+      → (judgeShareOutcome T R F i y Y b ≡ value Z) ↔ (Met (roundChecks T R) × (judgeShareIn (settingIn T R) F i y Y b ≡ value Z))
   pub written : (F : ShareForm) (i Y x w room : ℕ)
-      → (writeShareOutcome R F i Y x w room ≡ value tt) ↔ (Met (roundChecks R) × (writeShareIn (settingIn R) F i Y x w room ≡ value tt))
-  pub lent : (F : ShareForm) (i Y x w : ℕ) (out : List ℕ) → Met (roundChecks R)
-      → lentAfterShare R F i Y x w out ≡ lentAfterShareIn (settingIn R) F i Y x w out
-  pub kept : (F : ShareForm) (i Y x w : ℕ) (out : List ℕ) (k : ℕ) → writeShareOutcome R F i Y x w (length out) ≡ refused k
-      → lentAfterShare R F i Y x w out ≡ out
+      → (writeShareOutcome T R F i Y x w room ≡ value tt) ↔ (Met (roundChecks T R) × (writeShareIn (settingIn T R) F i Y x w room ≡ value tt))
+  pub lent : (F : ShareForm) (i Y x w : ℕ) (out : List ℕ) → Met (roundChecks T R)
+      → lentAfterShare T R F i Y x w out ≡ lentAfterShareIn (settingIn T R) F i Y x w out
+  pub kept : (F : ShareForm) (i Y x w : ℕ) (out : List ℕ) (k : ℕ) → writeShareOutcome T R F i Y x w (length out) ≡ refused k
+      → lentAfterShare T R F i Y x w out ≡ out
   -- what is written is accepted by a judge that takes the same figures of the round: its number, and the first round under the new rule
-  pub complete : R .round < 2 ^ 32 → (F : ShareForm) → F .kind < 2 ^ 32 → (i Y x w : ℕ) (out : List ℕ) → writeShareOutcome R F i Y x w (length out) ≡ value tt
-      → judgeShareOutcome R F i (keyOf (settingIn R .group) x) Y (lentAfterShare R F i Y x w out) ≡ value (record { 0 = shareOf (settingIn R .group) Y x })
+  pub complete : R .round < 2 ^ 32 → (F : ShareForm) → F .kind < 2 ^ 32 → (i Y x w : ℕ) (out : List ℕ) → writeShareOutcome T R F i Y x w (length out) ≡ value tt
+      → judgeShareOutcome T R F i (keyOf (settingIn T R .group) x) Y (lentAfterShare T R F i Y x w out) ≡ value (record { 0 = shareOf (settingIn T R .group) Y x })
 
 abbrev pub SharesByRound : Type 0
-SharesByRound = (R : Round) → ShareByRound R
+SharesByRound = (T : List ℕ) (R : Round) → ShareByRound T R

@@ -77,15 +77,15 @@ writeShareChecks S F i Y x w room =
 unfoldable pub writeShareIn : Setting → ShareForm → ℕ → ℕ → ℕ → ℕ → ℕ → Outcome (Unit {0})
 writeShareIn S F i Y x w room = outcome (writeShareChecks S F i Y x w room) tt
 
-unfoldable pub writeShareOutcome : Round → ShareForm → ℕ → ℕ → ℕ → ℕ → ℕ → Outcome (Unit {0})
-writeShareOutcome R F i Y x w room = judged R (λ S. writeShareChecks S F i Y x w room) (λ S. tt)
+unfoldable pub writeShareOutcome : List ℕ → Round → ShareForm → ℕ → ℕ → ℕ → ℕ → ℕ → Outcome (Unit {0})
+writeShareOutcome T R F i Y x w room = judged T R (λ S. writeShareChecks S F i Y x w room) (λ S. tt)
 
 -- what the lent bytes hold afterwards
 unfoldable pub lentAfterShareIn : Setting → ShareForm → ℕ → ℕ → ℕ → ℕ → List ℕ → List ℕ
 lentAfterShareIn S F i Y x w out = ifMet (writeShareChecks S F i Y x w (length out)) (writtenShare S F i Y x w) out
 
-unfoldable pub lentAfterShare : Round → ShareForm → ℕ → ℕ → ℕ → ℕ → List ℕ → List ℕ
-lentAfterShare R F i Y x w out = judgedElse R (λ S. writeShareChecks S F i Y x w (length out)) (λ S. writtenShare S F i Y x w) out
+unfoldable pub lentAfterShare : List ℕ → Round → ShareForm → ℕ → ℕ → ℕ → ℕ → List ℕ → List ℕ
+lentAfterShare T R F i Y x w out = judgedElse T R (λ S. writeShareChecks S F i Y x w (length out)) (λ S. writtenShare S F i Y x w) out
 
 -- ---- judged: the record r, with the key y of its member and the Y of that member's line
 -- the challenge that the posted figures give
@@ -128,5 +128,5 @@ judgeShareFiguresIn S F i y Y r = outcome (shareFigureChecks S F i y Y r) (recor
 unfoldable pub judgeShareIn : Setting → ShareForm → ℕ → ℕ → ℕ → List ℕ → Outcome Element
 judgeShareIn S F i y Y b = outcome (judgeShareChecks S F i y Y b) (record { 0 = ZOf (recordIn b) })
 
-unfoldable pub judgeShareOutcome : Round → ShareForm → ℕ → ℕ → ℕ → List ℕ → Outcome Element
-judgeShareOutcome R F i y Y b = judged R (λ S. judgeShareChecks S F i y Y b) (λ S. record { 0 = ZOf (recordIn b) })
+unfoldable pub judgeShareOutcome : List ℕ → Round → ShareForm → ℕ → ℕ → ℕ → List ℕ → Outcome Element
+judgeShareOutcome T R F i y Y b = judged T R (λ S. judgeShareChecks S F i y Y b) (λ S. record { 0 = ZOf (recordIn b) })

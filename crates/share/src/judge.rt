@@ -151,8 +151,9 @@ fn judge_in(
     judge_share_figures(s, form, i, y, encrypted, words::read_record(b))
 }
 
-// The judging over a round, in a form: 1 and 2 as setting_of, and then as in its setting.
+// The judging over a table and a round, in a form: as setting_of, and then as in their setting.
 fn judge(
+    table: &[u8],
     rd: Round,
     form: ShareForm,
     i: u32,
@@ -160,19 +161,20 @@ fn judge(
     encrypted: Element,
     b: &[u8],
 ) -> ElementAnswer
-    ensures { λ a. ⌜ elementOutcomeOf a ≡ judgeShareOutcome rd form i (y .0) (encrypted .0) (now (b .entry)) ⌝ }
+    ensures { λ a. ⌜ elementOutcomeOf a ≡ judgeShareOutcome (now (table .entry)) rd form i (y .0) (encrypted .0) (now (b .entry)) ⌝ }
 {
-    match setting_of(rd) {
+    match setting_of(table, rd) {
         SettingAnswer::Refused(k) => ElementAnswer::Refused(k),
         SettingAnswer::Value(s) => judge_in(s, form, i, y, encrypted, b),
     }
 }
 
 // Judges the record b of an opened share of the member i for the dealer d, with the key y of the member and the encrypted share
-// of his line: an accepted one answers the decrypted share. Refused: 1 and 2 as setting_of; 8 d or i is no member; 3 not 32
+// of his line: an accepted one answers the decrypted share. Refused: as setting_of; 8 d or i is no member; 3 not 32
 // bytes; 6 y or the encrypted share is no element, or y is 1; 4 no record of an opened share of i for d; 17 one of another
 // round; 6 the decrypted share is no element; 7 c or r is not below q; 10 c is not the recomputed one.
 pub fn judge_share(
+    table: &[u8],
     rd: Round,
     d: u32,
     i: u32,
@@ -180,17 +182,24 @@ pub fn judge_share(
     encrypted: Element,
     b: &[u8],
 ) -> ElementAnswer
-    ensures { λ a. ⌜ elementOutcomeOf a ≡ judgeShareOutcome rd (openedForm d) i (y .0) (encrypted .0) (now (b .entry)) ⌝ }
+    ensures { λ a. ⌜ elementOutcomeOf a ≡ judgeShareOutcome (now (table .entry)) rd (openedForm d) i (y .0) (encrypted .0) (now (b .entry)) ⌝ }
 {
-    judge(rd, opened_form(d), i, y, encrypted, b)
+    judge(table, rd, opened_form(d), i, y, encrypted, b)
 }
 
 // Judges the record b of an added share of the member i, with the key y of the member and the product of the encrypted shares of
-// his lines over all accepted dealings: an accepted one answers the decrypted share. Refused: 1 and 2 as setting_of; 8 i is no
+// his lines over all accepted dealings: an accepted one answers the decrypted share. Refused: as setting_of; 8 i is no
 // member; 3 not 32 bytes; 6 y or the product is no element, or y is 1; 4 no record of an added share of i; 17 one of another
 // round; 6 the decrypted share is no element; 7 c or r is not below q; 10 c is not the recomputed one.
-pub fn judge_added(rd: Round, i: u32, y: Element, encrypted: Element, b: &[u8]) -> ElementAnswer
-    ensures { λ a. ⌜ elementOutcomeOf a ≡ judgeShareOutcome rd addedForm i (y .0) (encrypted .0) (now (b .entry)) ⌝ }
+pub fn judge_added(
+    table: &[u8],
+    rd: Round,
+    i: u32,
+    y: Element,
+    encrypted: Element,
+    b: &[u8],
+) -> ElementAnswer
+    ensures { λ a. ⌜ elementOutcomeOf a ≡ judgeShareOutcome (now (table .entry)) rd addedForm i (y .0) (encrypted .0) (now (b .entry)) ⌝ }
 {
-    judge(rd, added_form(), i, y, encrypted, b)
+    judge(table, rd, added_form(), i, y, encrypted, b)
 }

@@ -109,8 +109,9 @@ fn write_in(
     CheckAnswer::Passed
 }
 
-// The writing over a round, in a form: 1 and 2 as setting_of, and then as in its setting.
+// The writing over a table and a round, in a form: as setting_of, and then as in their setting.
 fn write(
+    table: &[u8],
     rd: Round,
     form: ShareForm,
     i: u32,
@@ -119,19 +120,20 @@ fn write(
     w: Exponent,
     out: &mut [u8],
 ) -> CheckAnswer
-    ensures { λ r. ⌜ checkOutcomeOf r ≡ writeShareOutcome rd form i (encrypted .0) (x .0) (w .0) (length (now (out .entry))) ⌝ }
-    ensures { λ r. ⌜ now (out .exit) ≡ lentAfterShare rd form i (encrypted .0) (x .0) (w .0) (now (out .entry)) ⌝ }
+    ensures { λ r. ⌜ checkOutcomeOf r ≡ writeShareOutcome (now (table .entry)) rd form i (encrypted .0) (x .0) (w .0) (length (now (out .entry))) ⌝ }
+    ensures { λ r. ⌜ now (out .exit) ≡ lentAfterShare (now (table .entry)) rd form i (encrypted .0) (x .0) (w .0) (now (out .entry)) ⌝ }
 {
-    match setting_of(rd) {
+    match setting_of(table, rd) {
         SettingAnswer::Refused(k) => CheckAnswer::Refused(k),
         SettingAnswer::Value(s) => write_in(s, form, i, encrypted, x, w, out),
     }
 }
 
 // Writes the opened share of the member i for the dealer d, from the encrypted share, the secret key x and the nonce w.
-// Refused, with no lent byte changed: 1 and 2 as setting_of; 8 d or i is no member; 3 not 32 bytes; 6 the encrypted share is no
+// Refused, with no lent byte changed: as setting_of; 8 d or i is no member; 3 not 32 bytes; 6 the encrypted share is no
 // element; 7 x is 0 or not below q, or w is not below q.
 pub fn write_share(
+    table: &[u8],
     rd: Round,
     d: u32,
     i: u32,
@@ -140,16 +142,17 @@ pub fn write_share(
     w: Exponent,
     out: &mut [u8],
 ) -> CheckAnswer
-    ensures { λ r. ⌜ checkOutcomeOf r ≡ writeShareOutcome rd (openedForm d) i (encrypted .0) (x .0) (w .0) (length (now (out .entry))) ⌝ }
-    ensures { λ r. ⌜ now (out .exit) ≡ lentAfterShare rd (openedForm d) i (encrypted .0) (x .0) (w .0) (now (out .entry)) ⌝ }
+    ensures { λ r. ⌜ checkOutcomeOf r ≡ writeShareOutcome (now (table .entry)) rd (openedForm d) i (encrypted .0) (x .0) (w .0) (length (now (out .entry))) ⌝ }
+    ensures { λ r. ⌜ now (out .exit) ≡ lentAfterShare (now (table .entry)) rd (openedForm d) i (encrypted .0) (x .0) (w .0) (now (out .entry)) ⌝ }
 {
-    write(rd, opened_form(d), i, encrypted, x, w, out)
+    write(table, rd, opened_form(d), i, encrypted, x, w, out)
 }
 
 // Writes the added share of the member i, from the product of the encrypted shares of his lines over all accepted dealings, the
-// secret key x and the nonce w. Refused, with no lent byte changed: 1 and 2 as setting_of; 8 i is no member; 3 not 32 bytes; 6 the
+// secret key x and the nonce w. Refused, with no lent byte changed: as setting_of; 8 i is no member; 3 not 32 bytes; 6 the
 // product is no element; 7 x is 0 or not below q, or w is not below q.
 pub fn write_added(
+    table: &[u8],
     rd: Round,
     i: u32,
     encrypted: Element,
@@ -157,8 +160,8 @@ pub fn write_added(
     w: Exponent,
     out: &mut [u8],
 ) -> CheckAnswer
-    ensures { λ r. ⌜ checkOutcomeOf r ≡ writeShareOutcome rd addedForm i (encrypted .0) (x .0) (w .0) (length (now (out .entry))) ⌝ }
-    ensures { λ r. ⌜ now (out .exit) ≡ lentAfterShare rd addedForm i (encrypted .0) (x .0) (w .0) (now (out .entry)) ⌝ }
+    ensures { λ r. ⌜ checkOutcomeOf r ≡ writeShareOutcome (now (table .entry)) rd addedForm i (encrypted .0) (x .0) (w .0) (length (now (out .entry))) ⌝ }
+    ensures { λ r. ⌜ now (out .exit) ≡ lentAfterShare (now (table .entry)) rd addedForm i (encrypted .0) (x .0) (w .0) (now (out .entry)) ⌝ }
 {
-    write(rd, added_form(), i, encrypted, x, w, out)
+    write(table, rd, added_form(), i, encrypted, x, w, out)
 }

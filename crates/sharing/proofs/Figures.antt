@@ -6,9 +6,9 @@ use native.Mathlib.Omega.{arith}
 use Rattle.words.specs.Checks.{refused, Met}
 use Rattle.field.specs.Residue.{add, mul, sub, inv}
 use Rattle.group.specs.Power.{pow}
-use Rattle.group.specs.Table.{isGroup, groupOf}
+use Rattle.group.specs.Table.{groupsOf, tableChecks, isGroup, groupOf}
 use Rattle.group.specs.Element.{isElement, isExponent}
-use Rattle.sharing.specs.Setting.{ProperSetting, inRange, roundChecks}
+use Rattle.sharing.specs.Setting.{ProperSetting, inRange, roundFigures, roundChecks}
 use Rattle.sharing.specs.Weights.{gapsAt, weightAt, weightsOf, powersProduct}
 use Rattle.sharing.specs.Answer.{degreeFigures, degreeEquation, degreeProduct, degreeIn}
 use Rattle.sharing.specs.Carried.{powersAt, Carries, Commitments, CheckPolynomial, place}
@@ -16,15 +16,15 @@ use Rattle.sharing.specs.Figures.{smallRound, small, CarriedFigures, Fir
 use Rattle.sharing.proofs.Rounds.{round-proper}
 use Rattle.sharing.proofs.Theorems.{carried-passes}
 
-met : Met (roundChecks smallRound)
-unfolding roundChecks isGroup inRange groupOf
-met = (refl, (refl, tt))
+met : Met (roundChecks [] smallRound)
+unfolding roundChecks roundFigures tableChecks groupsOf isGroup inRange groupOf
+met = (refl, (refl, (refl, (refl, tt))))
 
 pub small-proper : ProperSetting small
-small-proper = round-proper smallRound met
+small-proper = round-proper [] smallRound met
 
 pub carried-figures : CarriedFigures
-unfolding groupOf powersAt pow add mul
+unfolding groupsOf groupOf powersAt pow add mul
 carried-figures = (met, record { polynomial = record { size = refl; low = (omega arith, (omega arith, tt)) }; powers = refl })
 
 -- a check polynomial that does not pass shows that no polynomial carries the commitments
@@ -36,7 +36,7 @@ refused-uncarried vs ds D e f K =
 
 -- the same of the unit of the first place
 first-place : (vs : List ℕ) → Commitments small vs → place small vs ≡ 0 → degreeIn small vs (1 ∷ 0 ∷ []) ≡ refused 9 → FirstPlace vs
-unfolding groupOf
+unfolding groupsOf groupOf
 first-place vs C f e =
     record {
       commitments = C;
@@ -46,5 +46,5 @@ first-place vs C f e =
     }
 
 pub first-only-figures : FirstOnlyFigures
-unfolding place degreeIn degreeFigures degreeEquation degreeProduct powersProduct weightsOf weightAt gapsAt isElement isExponent isGroup groupOf pow inv add mul sub
+unfolding place degreeIn degreeFigures degreeEquation degreeProduct powersProduct weightsOf weightAt gapsAt isElement isExponent groupsOf groupOf pow inv add mul sub
 first-only-figures = (first-place firstOnly (record { size = refl; elements = refl }) refl refl, refl)

@@ -1,4 +1,4 @@
--- What the checks of a round settle: its setting is proper, and an operation over the round does what it does in the setting.
+-- What the checks of a table and a round settle: the setting is proper, and an operation over them does what it does in the setting.
 -- Then quorums, and the members of a proper setting as nodes.
 use mathlib.Core.Path.{_≡_, sym, ap, _∙_, subst}
 use mathlib.Core.Bool.{Bool, true}
@@ -16,9 +16,9 @@ use Rattle.words.proofs.Tests.{and-true, true-and, all-true, true-all, true-dis
 use Rattle.words.proofs.Checks.{value-met}
 use Rattle.words.proofs.Stages.{met-both, rest-outcome, rest-choice, given-refused, given-value, given-kept, given-choice}
 use Rattle.field.specs.Claims.{Nodes}
-use Rattle.group.specs.Table.{isGroup}
-use Rattle.group.proofs.Table.{table-proper, table-below, order-below}
-use Rattle.sharing.specs.Setting.{ProperSetting, settingIn, inRound, inRange, roundChecks, settingOutcomeOf, settingOutcome, judged, judgedElse, isMember, members}
+use Rattle.group.specs.Table.{groupsOf, tableChecks}
+use Rattle.group.proofs.Table.{group-sound, number-low}
+use Rattle.sharing.specs.Setting.{ProperSetting, settingIn, inRound, inRange, roundFigures, roundChecks, settingOutcomeOf, figuresOutcome, settingOutcome, judged, judgedElse, isMember, members}
 use Rattle.sharing.specs.Answer.{isQuorum}
 use Rattle.sharing.specs.Carried.{Carries, Quorum}
 use Rattle.sharing.specs.declared.Round.{Round}
@@ -26,20 +26,21 @@ use Rattle.sharing.specs.declared.Setting.{Setting}
 use Rattle.sharing.specs.declared.SettingAnswer.{SettingAnswer}
 use Rattle.sharing.specs.declared.SettingAnswer.the-variants.{Value, Refused}
 
-pub round-proper : (R : Round) → Met (roundChecks R) → ProperSetting (settingIn R)
-unfolding roundChecks inRange isGroup
-round-proper R m =
-    let S : Setting = settingIn R in
-    let a = and-true (leb 1 (S .n)) _ (m .1 .0) in
+pub round-proper : (T : List ℕ) (R : Round) → Met (roundChecks T R) → ProperSetting (settingIn T R)
+unfolding roundChecks roundFigures inRange
+round-proper T R m =
+    let S : Setting = settingIn T R in
+    let s = met-both (tableChecks T) (roundFigures (groupsOf T) R) m in
+    let a = and-true (leb 1 (S .n)) _ (s .1 .1 .0) in
     let b = and-true (leb (S .n) 31) _ (a .1) in
     let c = and-true (ltb (S .n) (S .group .q)) _ (b .1) in
     let d = and-true (leb 1 (S .t)) (leb (S .t) (S .n)) (c .1) in
-    let k = leb-true (R .group) 3 (and-true (leb 1 (R .group)) _ (m .0) .1) in
+    let g = group-sound T (s .0) (R .group) (s .1 .0) in
     record {
-      proper = table-proper (R .group) (m .0);
-      p-word = table-below (R .group) (m .0);
-      q-word = order-below (R .group) (m .0);
-      number-byte = omega arith;
+      proper = g .proper;
+      p-word = g .p-word;
+      q-word = g .q-word;
+      number-byte = number-low T (s .0) (R .group) (s .1 .0);
       n-positive = leb-true 1 (S .n) (a .0);
       n-most = leb-true (S .n) 31 (b .0);
       n-below = ltb-true (S .n) (S .group .q) (c .0);
@@ -66,51 +67,56 @@ module _ {S : Setting} (round : ℕ) (whole : Bool) where
   pub carries-in-round : {f vs : List ℕ} → Carries (inRound round whole S) f vs → Carries S f vs
   carries-in-round K = record { polynomial = record { size = K .polynomial .size; low = K .polynomial .low }; powers = K .powers }
 
--- ---- an operation over a round, where 1 and 2 do not refuse it
-module _ {A : Type 0} (R : Round) (checks : Setting → List Check) (answer : Setting → A) where
-  module _ (m : Met (roundChecks R)) where
-    pub judged-in : judged R checks answer ≡ outcome (checks (settingIn R)) (answer (settingIn R))
+-- ---- an operation over a table and a round, where their checks do not refuse
+module _ {A : Type 0} (T : List ℕ) (R : Round) (checks : Setting → List Check) (answer : Setting → A) where
+  module _ (m : Met (roundChecks T R)) where
+    pub judged-in : judged T R checks answer ≡ outcome (checks (settingIn T R)) (answer (settingIn T R))
     unfolding judged
-    judged-in = sym (rest-outcome (roundChecks R) (checks (settingIn R)) m (answer (settingIn R)))
+    judged-in = sym (rest-outcome (roundChecks T R) (checks (settingIn T R)) m (answer (settingIn T R)))
 
-    pub judged-else-in : (old : A) → judgedElse R checks answer old ≡ ifMet (checks (settingIn R)) (answer (settingIn R)) old
+    pub judged-else-in : (old : A) → judgedElse T R checks answer old ≡ ifMet (checks (settingIn T R)) (answer (settingIn T R)) old
     unfolding judgedElse
-    judged-else-in old = sym (rest-choice (roundChecks R) (checks (settingIn R)) m (answer (settingIn R)) old)
+    judged-else-in old = sym (rest-choice (roundChecks T R) (checks (settingIn T R)) m (answer (settingIn T R)) old)
 
-  -- a value over the round is one in its setting, and the round is not refused
+  -- a value over them is one in their setting, and neither is refused
   pub judged-exactly : (a : A)
-      → (judged R checks answer ≡ value a) ↔ (Met (roundChecks R) × (outcome (checks (settingIn R)) (answer (settingIn R)) ≡ value a))
+      → (judged T R checks answer ≡ value a) ↔ (Met (roundChecks T R) × (outcome (checks (settingIn T R)) (answer (settingIn T R)) ≡ value a))
   unfolding judged
   judged-exactly a = (
     λ e.
-        let m = met-both (roundChecks R) (checks (settingIn R)) (value-met (roundChecks R ++ checks (settingIn R)) (answer (settingIn R)) a e .0) .0 in
+        let m = met-both (roundChecks T R) (checks (settingIn T R)) (value-met (roundChecks T R ++ checks (settingIn T R)) (answer (settingIn T R)) a e .0) .0 in
         (m, sym (judged-in m) ∙ e),
     λ w. judged-in (w .0) ∙ w .1,
   )
 
   -- ---- the same by the answer r of the function that gives the setting
-  module _ {r : SettingAnswer} (e : settingOutcomeOf r ≡ settingOutcome R) where
-    pub judged-refused : {k : ℕ} → r ≡ Refused k → refused k ≡ judged R checks answer
+  module _ {r : SettingAnswer} (e : settingOutcomeOf r ≡ settingOutcome T R) where
+    pub judged-refused : {k : ℕ} → r ≡ Refused k → refused k ≡ judged T R checks answer
     unfolding judged settingOutcome
-    judged-refused f = given-refused (roundChecks R) (settingIn R) checks answer (sym e ∙ ap settingOutcomeOf f)
+    judged-refused f = given-refused (roundChecks T R) (settingIn T R) checks answer (sym e ∙ ap settingOutcomeOf f)
 
-    pub judged-value : {S : Setting} → r ≡ Value S → outcome (checks S) (answer S) ≡ judged R checks answer
+    pub judged-value : {S : Setting} → r ≡ Value S → outcome (checks S) (answer S) ≡ judged T R checks answer
     unfolding judged settingOutcome
-    judged-value f = given-value (roundChecks R) (settingIn R) checks answer (sym e ∙ ap settingOutcomeOf f)
+    judged-value f = given-value (roundChecks T R) (settingIn T R) checks answer (sym e ∙ ap settingOutcomeOf f)
 
-    pub judged-kept : {k : ℕ} → r ≡ Refused k → (old : A) → old ≡ judgedElse R checks answer old
+    pub judged-kept : {k : ℕ} → r ≡ Refused k → (old : A) → old ≡ judgedElse T R checks answer old
     unfolding judgedElse settingOutcome
-    judged-kept f old = given-kept (roundChecks R) (settingIn R) checks answer (sym e ∙ ap settingOutcomeOf f) old
+    judged-kept f old = given-kept (roundChecks T R) (settingIn T R) checks answer (sym e ∙ ap settingOutcomeOf f) old
 
-    pub judged-lent : {S : Setting} → r ≡ Value S → (old : A) → ifMet (checks S) (answer S) old ≡ judgedElse R checks answer old
+    pub judged-lent : {S : Setting} → r ≡ Value S → (old : A) → ifMet (checks S) (answer S) old ≡ judgedElse T R checks answer old
     unfolding judgedElse settingOutcome
-    judged-lent f old = given-choice (roundChecks R) (settingIn R) checks answer (sym e ∙ ap settingOutcomeOf f) old
+    judged-lent f old = given-choice (roundChecks T R) (settingIn T R) checks answer (sym e ∙ ap settingOutcomeOf f) old
 
-pub setting-proper : (R : Round) {r : SettingAnswer} → settingOutcomeOf r ≡ settingOutcome R → {S : Setting} → r ≡ Value S → ProperSetting S
+-- where the table is accepted, the function that looks the setting up in it gives the same
+pub figures-setting : (T : List ℕ) (R : Round) → Met (tableChecks T) → figuresOutcome T R ≡ settingOutcome T R
+unfolding figuresOutcome settingOutcome roundChecks
+figures-setting T R m = rest-outcome (tableChecks T) (roundFigures (groupsOf T) R) m (settingIn T R)
+
+pub setting-proper : (T : List ℕ) (R : Round) {r : SettingAnswer} → settingOutcomeOf r ≡ settingOutcome T R → {S : Setting} → r ≡ Value S → ProperSetting S
 unfolding settingOutcome
-setting-proper R e {S} f =
-    let s = value-met (roundChecks R) (settingIn R) S (sym e ∙ ap settingOutcomeOf f) in
-    subst ProperSetting (s .1) (round-proper R (s .0))
+setting-proper T R e {S} f =
+    let s = value-met (roundChecks T R) (settingIn T R) S (sym e ∙ ap settingOutcomeOf f) in
+    subst ProperSetting (s .1) (round-proper T R (s .0))
 
 -- ---- members and quorums
 pub true-quorum : (S : Setting) (ms : List ℕ) → Quorum S ms → isQuorum S ms ≡ true

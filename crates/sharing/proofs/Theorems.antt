@@ -1,4 +1,4 @@
--- The theorems of one dealing's commitments and of a round's two numbers, as specs/Claims.antt states them.
+-- The theorems of one dealing's commitments, of a round's two numbers and of the table, as specs/Claims.antt states them.
 use mathlib.Core.Path.{_≡_, refl, sym, ap, _∙_}
 use mathlib.Core.Bool.{true, false, not, _&&_}
 use mathlib.Core.List.{List, _++_}
@@ -7,15 +7,18 @@ use Prim.Native.Nat.{ℕ, zero, suc, _-_, _≤_, _<_}
 use native.Mathlib.Omega.{arith}
 use borrow.Author.Tests.{eq-eqb, ne-eqb, leb-true, le-leb, lt-leb}
 use lib.Dec.{leb, eqb}
-use Rattle.words.specs.Checks.{value, outcome, isValue, ifMet}
+use Rattle.words.specs.Checks.{Check, value, outcome, isValue, ifMet}
 use Rattle.words.proofs.Tests.{and-true, true-and, false-true}
 use Rattle.words.proofs.Checks.{not-value}
 use Rattle.group.specs.Power.{pow}
-use Rattle.sharing.specs.Setting.{ProperSetting, takesWhole, settingIn, inRound, withNumbers, roundChecks, judged, judgedElse}
+use Rattle.group.specs.Table.{groupOf}
+use Rattle.group.specs.declared.Group.{Group}
+use Rattle.group.proofs.Table.{groups-outcome, groups-choice}
+use Rattle.sharing.specs.Setting.{ProperSetting, takesWhole, settingIn, inRound, withNumbers, roundFigures, roundChecks, judged, judgedElse}
 use Rattle.sharing.specs.Answer.{degreeProduct, degreeFigures, degreeEquation, degreeIn, degreeOutcome, isOpening, openingFigures, openingEquation, openingIn, openingOutcome, isQuorum, recoveryIn, recoveryOutcome}
 use Rattle.sharing.specs.Weights.{gapsAt, weightAt, weightsOf}
 use Rattle.sharing.specs.Carried.{Commitments, secretOf, unitOf, place}
-use Rattle.sharing.specs.Claims.{LinearCheck, AlwaysCarried, UncarriedOneValue, CarriedPasses, CarriedExactly, OpeningExactly, QuorumRecovers, SecretOfCommitments, RoundBySetting, InEveryRound, Rule, RuleAlone}
+use Rattle.sharing.specs.Claims.{LinearCheck, AlwaysCarried, UncarriedOneValue, CarriedPasses, CarriedExactly, OpeningExactly, QuorumRecovers, SecretOfCommitments, RoundBySetting, InEveryRound, Rule, RuleAlone, GroupsAlone}
 use Rattle.sharing.specs.declared.Setting.{Setting}
 use Rattle.sharing.proofs.Generators.{Exponents, exponents}
 use Rattle.sharing.proofs.Rounds.{round-proper, judged-in}
@@ -69,12 +72,12 @@ secret-of-commitments S Y f₁ f₂ vs K L = opens-secret S Y f₂ vs L (secretO
 
 pub round-by-setting : RoundBySetting
 unfolding degreeOutcome degreeIn openingOutcome openingIn recoveryOutcome recoveryIn
-round-by-setting R m =
+round-by-setting T R m =
     record {
-      proper-setting = round-proper R m;
-      degree = λ vs ds. judged-in R _ _ m;
-      opening = λ vs u. judged-in R _ _ m;
-      recovery = λ ms ss. judged-in R _ _ m;
+      proper-setting = round-proper T R m;
+      degree = λ vs ds. judged-in T R _ _ m;
+      opening = λ vs u. judged-in T R _ _ m;
+      recovery = λ ms ss. judged-in T R _ _ m;
     }
 
 pub in-every-round : InEveryRound
@@ -100,11 +103,23 @@ rule first round = record { new = (new-to, new-from); in-round-zero = by-first f
 
 -- the checks of a round have neither of its two numbers in them
 pub rule-alone : RuleAlone
-unfolding roundChecks judged judgedElse
-rule-alone R first e =
-    let same : settingIn (withNumbers (R .round) first R) ≡ settingIn R = λ j. inRound (R .round) (e j) (settingIn R) in
+unfolding roundFigures roundChecks judged judgedElse
+rule-alone T R first e =
+    let same : settingIn T (withNumbers (R .round) first R) ≡ settingIn T R = λ j. inRound (R .round) (e j) (settingIn T R) in
     record {
       setting = same;
-      answer = λ checks answer j. outcome (roundChecks R ++ checks (same j)) (answer (same j));
-      lent = λ checks new old j. ifMet (roundChecks R ++ checks (same j)) (new (same j)) old;
+      answer = λ checks answer j. outcome (roundChecks T R ++ checks (same j)) (answer (same j));
+      lent = λ checks new old j. ifMet (roundChecks T R ++ checks (same j)) (new (same j)) old;
+    }
+
+-- ---- the table
+pub groups-alone : GroupsAlone
+unfolding judged judgedElse roundChecks
+groups-alone T₁ T₂ R m₁ m₂ e =
+    let among : List Group → Setting = λ Gs. record { group = groupOf Gs (R .group); number = R .group; n = R .n; t = R .t; round = R .round; whole = takesWhole (R .first) (R .round) } in
+    let figures : List Group → List Check = λ Gs. roundFigures Gs R in
+    record {
+      setting = ap among e;
+      answer = λ checks answer. groups-outcome T₁ T₂ m₁ m₂ e figures (λ Gs. checks (among Gs)) (λ Gs. answer (among Gs));
+      lent = λ checks new old. groups-choice T₁ T₂ m₁ m₂ e figures (λ Gs. checks (among Gs)) (λ Gs. new (among Gs)) old;
     }

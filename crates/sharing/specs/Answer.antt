@@ -1,4 +1,4 @@
--- What the degree check, the opening and recovery answer: in a setting, and over a round, whose own checks come first.
+-- What the degree check, the opening and recovery answer: in a setting, and over a table and a round, whose own checks come first.
 use mathlib.Core.Bool.{Bool, _&&_}
 use mathlib.Core.List.{List, [], _∷_, _++_}
 use Prim.Native.Nat.{ℕ, _-_}
@@ -43,8 +43,8 @@ degreeChecks S vs ds = degreeFigures S vs ds ++ degreeEquation S vs ds
 unfoldable pub degreeIn : Setting → List ℕ → List ℕ → Outcome (Unit {0})
 degreeIn S vs ds = outcome (degreeChecks S vs ds) tt
 
-unfoldable pub degreeOutcome : Round → List ℕ → List ℕ → Outcome (Unit {0})
-degreeOutcome R vs ds = judged R (λ S. degreeChecks S vs ds) (λ S. tt)
+unfoldable pub degreeOutcome : List ℕ → Round → List ℕ → List ℕ → Outcome (Unit {0})
+degreeOutcome T R vs ds = judged T R (λ S. degreeChecks S vs ds) (λ S. tt)
 
 -- ---- recovery
 -- the product of the shares to Lagrange's coefficients
@@ -65,8 +65,8 @@ recoveryChecks S ms ss =
 unfoldable pub recoveryIn : Setting → List ℕ → List ℕ → Outcome Element
 recoveryIn S ms ss = outcome (recoveryChecks S ms ss) (record { 0 = recovered (S .group) ms ss })
 
-unfoldable pub recoveryOutcome : Round → List ℕ → List ℕ → Outcome Element
-recoveryOutcome R ms ss = judged R (λ S. recoveryChecks S ms ss) (λ S. record { 0 = recovered (S .group) ms ss })
+unfoldable pub recoveryOutcome : List ℕ → Round → List ℕ → List ℕ → Outcome Element
+recoveryOutcome T R ms ss = judged T R (λ S. recoveryChecks S ms ss) (λ S. record { 0 = recovered (S .group) ms ss })
 
 -- ---- opening
 -- g to the opening u is what the first t commitments give at 0
@@ -90,5 +90,5 @@ openingChecks S vs u = openingFigures S vs u ++ openingEquation S vs u
 unfoldable pub openingIn : Setting → List ℕ → ℕ → Outcome (Unit {0})
 openingIn S vs u = outcome (openingChecks S vs u) tt
 
-unfoldable pub openingOutcome : Round → List ℕ → ℕ → Outcome (Unit {0})
-openingOutcome R vs u = judged R (λ S. openingChecks S vs u) (λ S. tt)
+unfoldable pub openingOutcome : List ℕ → Round → List ℕ → ℕ → Outcome (Unit {0})
+openingOutcome T R vs u = judged T R (λ S. openingChecks S vs u) (λ S. tt)

@@ -1,6 +1,6 @@
 -- What is claimed of one dealing's commitments: the sentences of demand 3 that speak of one dealing, over the three
--- operations' answers, for every proper setting. RoundBySetting reads them off for the rounds that 1 and 2 do not refuse. Then what is
--- claimed of a round's two numbers: where they do not enter, and the rule that they give.
+-- operations' answers, for every proper setting. RoundBySetting reads them off for the tables and rounds whose checks
+-- do not refuse. Then what is claimed of a round's two numbers, where they do not enter and the rule that they give, and of the table.
 use mathlib.Core.Path.{_≡_}
 use mathlib.Core.Bool.{Bool, true, false}
 use mathlib.Core.List.{List}
@@ -12,6 +12,7 @@ use Rattle.words.specs.Checks.{Check, value, refused, Met}
 use Rattle.field.specs.Residue.{residueOps}
 use Rattle.field.specs.Polynomial.{dot}
 use Rattle.group.specs.Power.{pow}
+use Rattle.group.specs.Table.{groupsOf, tableChecks}
 use Rattle.sharing.specs.Setting.{ProperSetting, takesWhole, settingIn, inRound, withNumbers, roundChecks, judged, judgedElse}
 use Rattle.sharing.specs.Answer.{degreeIn, openingIn, recoveryIn, degreeOutcome, openingOutcome, recoveryOutcome}
 use Rattle.sharing.specs.Carried.{Carries, Commitments, Quorum, TrueShares, secretOf, CheckPolynomial, Passes, unitOf, place, AgreeOff, sumsAt}
@@ -77,15 +78,15 @@ abbrev pub SecretOfCommitments : Type 0
 SecretOfCommitments =
     (S : Setting) → ProperSetting S → (f₁ f₂ vs : List ℕ) → Carries S f₁ vs → Carries S f₂ vs → secretOf S f₁ ≡ secretOf S f₂
 
--- A round that 1 and 2 do not refuse has a proper setting, in which each operation answers what it answers over the round.
-pub record AnswersIn (S : Setting) (R : Round) : Type 0 where
+-- A table and a round that their checks do not refuse have a proper setting, in which each operation answers what it answers over them.
+pub record AnswersIn (S : Setting) (T : List ℕ) (R : Round) : Type 0 where
   pub proper-setting : ProperSetting S
-  pub degree : (vs ds : List ℕ) → degreeOutcome R vs ds ≡ degreeIn S vs ds
-  pub opening : (vs : List ℕ) (u : ℕ) → openingOutcome R vs u ≡ openingIn S vs u
-  pub recovery : (ms ss : List ℕ) → recoveryOutcome R ms ss ≡ recoveryIn S ms ss
+  pub degree : (vs ds : List ℕ) → degreeOutcome T R vs ds ≡ degreeIn S vs ds
+  pub opening : (vs : List ℕ) (u : ℕ) → openingOutcome T R vs u ≡ openingIn S vs u
+  pub recovery : (ms ss : List ℕ) → recoveryOutcome T R ms ss ≡ recoveryIn S ms ss
 
 abbrev pub RoundBySetting : Type 0
-RoundBySetting = (R : Round) → Met (roundChecks R) → AnswersIn (settingIn R) R
+RoundBySetting = (T : List ℕ) (R : Round) → Met (roundChecks T R) → AnswersIn (settingIn T R) T R
 
 -- The three operations depend neither on the round's number nor on the rule.
 pub record AnswersInRound (round : ℕ) (whole : Bool) (S : Setting) : Type 0 where
@@ -108,12 +109,20 @@ Rule = (first round : ℕ) → RuleOf first round
 
 -- Of the first round nothing else enters: where another one gives the round the same rule, every operation over the round answers the
 -- same and leaves the same in a lent buffer.
-pub record SameOver (R₁ R₂ : Round) : Type 1 where
-  pub setting : settingIn R₁ ≡ settingIn R₂
-  pub answer : {A : Type 0} (checks : Setting → List Check) (answer : Setting → A) → judged R₁ checks answer ≡ judged R₂ checks answer
+pub record SameOver (T₁ : List ℕ) (R₁ : Round) (T₂ : List ℕ) (R₂ : Round) : Type 1 where
+  pub setting : settingIn T₁ R₁ ≡ settingIn T₂ R₂
+  pub answer : {A : Type 0} (checks : Setting → List Check) (answer : Setting → A)
+      → judged T₁ R₁ checks answer ≡ judged T₂ R₂ checks answer
   pub lent : {A : Type 0} (checks : Setting → List Check) (new : Setting → A) (old : A)
-      → judgedElse R₁ checks new old ≡ judgedElse R₂ checks new old
+      → judgedElse T₁ R₁ checks new old ≡ judgedElse T₂ R₂ checks new old
 
 abbrev pub RuleAlone : Type 1
 RuleAlone =
-    (R : Round) (first : ℕ) → takesWhole first (R .round) ≡ takesWhole (R .first) (R .round) → SameOver (withNumbers (R .round) first R) R
+    (T : List ℕ) (R : Round) (first : ℕ) → takesWhole first (R .round) ≡ takesWhole (R .first) (R .round)
+    → SameOver T (withNumbers (R .round) first R) T R
+
+-- Of an accepted table nothing but its groups enters: another one with the same groups, or no bytes where these are the built-in ones,
+-- gives every operation over a round the same answer.
+abbrev pub GroupsAlone : Type 1
+GroupsAlone =
+    (T₁ T₂ : List ℕ) (R : Round) → Met (tableChecks T₁) → Met (tableChecks T₂) → groupsOf T₁ ≡ groupsOf T₂ → SameOver T₁ R T₂ R

@@ -16,11 +16,11 @@ abbrev pub smallRound : Round
 smallRound = record { group = 1; n = 4; t = 2; round = 0; first = 0 }
 
 abbrev pub small : Setting
-small = settingIn smallRound
+small = settingIn [] smallRound
 
 -- the round is one that nothing refuses, and 3 + 5 times the member number carries 9, 16, 8, 4
 abbrev pub CarriedFigures : Type 0
-CarriedFigures = Met (roundChecks smallRound) × Carries small (3 ∷ 5 ∷ []) (9 ∷ 16 ∷ 8 ∷ 4 ∷ [])
+CarriedFigures = Met (roundChecks [] smallRound) × Carries small (3 ∷ 5 ∷ []) (9 ∷ 16 ∷ 8 ∷ 4 ∷ [])
 
 -- no polynomial carries the commitments, and the place that they fix is the first
 pub record FirstPlace (vs : List ℕ) : Type 0 where

@@ -1,12 +1,13 @@
--- A round's figures as they are lent, the checks by which every operation begins, and the setting that they leave.
+-- A table of groups and a round's figures as they are lent, the checks by which every operation begins, and the setting that they leave.
 use mathlib.Core.Bool.{Bool, not, _&&_}
 use mathlib.Core.List.{List, [], _∷_, _++_}
 use Prim.Native.Nat.{ℕ, _^_, _≤_, _<_}
 use lib.Dec.{leb, ltb, eqb}
 use Rattle.words.specs.Lists.{upFrom}
 use Rattle.words.specs.Checks.{Check, _unless_, Outcome, value, refused, outcome, ifMet}
-use Rattle.group.specs.Table.{isGroup, groupOf}
+use Rattle.group.specs.Table.{groupsOf, tableChecks, isGroup, groupOf}
 use Rattle.group.specs.Element.{Proper}
+use Rattle.group.specs.declared.Group.{Group}
 use Rattle.sharing.specs.declared.Round.{Round}
 use Rattle.sharing.specs.declared.Setting.{Setting}
 use Rattle.sharing.specs.declared.SettingAnswer.{SettingAnswer}
@@ -30,9 +31,10 @@ pub record ProperSetting (S : Setting) : Type 0 where
 unfoldable pub takesWhole : ℕ → ℕ → Bool
 takesWhole first round = not (eqb first 0) && leb first round
 
-abbrev pub settingIn : Round → Setting
-settingIn R =
-    record { group = groupOf (R .group); number = R .group; n = R .n; t = R .t; round = R .round; whole = takesWhole (R .first) (R .round) }
+-- T is the table's bytes
+abbrev pub settingIn : List ℕ → Round → Setting
+settingIn T R =
+    record { group = groupOf (groupsOf T) (R .group); number = R .group; n = R .n; t = R .t; round = R .round; whole = takesWhole (R .first) (R .round) }
 
 -- the same setting in the round of another number, under either rule
 abbrev pub inRound : ℕ → Bool → Setting → Setting
@@ -46,24 +48,33 @@ withNumbers round first R = record { group = R .group; n = R .n; t = R .t; round
 unfoldable pub inRange : ℕ → ℕ → ℕ → Bool
 inRange q n t = leb 1 n && (leb n 31 && (ltb n q && (leb 1 t && leb t n)))
 
-unfoldable pub roundChecks : Round → List Check
-roundChecks R = 1 unless isGroup (R .group) ∷ 2 unless inRange (groupOf (R .group) .q) (R .n) (R .t) ∷ []
+-- a round among the groups of an accepted table
+unfoldable pub roundFigures : List Group → Round → List Check
+roundFigures Gs R = 1 unless isGroup Gs (R .group) ∷ 2 unless inRange (groupOf Gs (R .group) .q) (R .n) (R .t) ∷ []
+
+-- the table comes first
+unfoldable pub roundChecks : List ℕ → Round → List Check
+roundChecks T R = tableChecks T ++ roundFigures (groupsOf T) R
 
 abbrev pub settingOutcomeOf : SettingAnswer → Outcome Setting
 settingOutcomeOf (Value S) = value S
 settingOutcomeOf (Refused k) = refused k
 
-unfoldable pub settingOutcome : Round → Outcome Setting
-settingOutcome R = outcome (roundChecks R) (settingIn R)
+-- of an accepted table, and of any
+unfoldable pub figuresOutcome : List ℕ → Round → Outcome Setting
+figuresOutcome T R = outcome (roundFigures (groupsOf T) R) (settingIn T R)
 
--- ---- what an operation does over a round: the round's checks come first, then those of its setting
+unfoldable pub settingOutcome : List ℕ → Round → Outcome Setting
+settingOutcome T R = outcome (roundChecks T R) (settingIn T R)
+
+-- ---- what an operation does over a table and a round: their checks come first, then those of the setting
 -- its answer
-unfoldable pub judged : {A : Type 0} → Round → (Setting → List Check) → (Setting → A) → Outcome A
-judged R checks answer = outcome (roundChecks R ++ checks (settingIn R)) (answer (settingIn R))
+unfoldable pub judged : {A : Type 0} → List ℕ → Round → (Setting → List Check) → (Setting → A) → Outcome A
+judged T R checks answer = outcome (roundChecks T R ++ checks (settingIn T R)) (answer (settingIn T R))
 
 -- a lent buffer afterwards
-unfoldable pub judgedElse : {A : Type 0} → Round → (Setting → List Check) → (Setting → A) → A → A
-judgedElse R checks new old = ifMet (roundChecks R ++ checks (settingIn R)) (new (settingIn R)) old
+unfoldable pub judgedElse : {A : Type 0} → List ℕ → Round → (Setting → List Check) → (Setting → A) → A → A
+judgedElse T R checks new old = ifMet (roundChecks T R ++ checks (settingIn T R)) (new (settingIn T R)) old
 
 -- ---- members
 -- a member's number is from 1 to n

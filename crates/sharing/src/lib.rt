@@ -1,4 +1,4 @@
-// One dealing's commitments: the degree check, the opening and recovery, each over a round and in its setting.
+// One dealing's commitments: the degree check, the opening and recovery, each over a table and a round, and in their setting.
 ghost use mathlib.Core.Path.{_≡_};
 ghost use Rattle.words.specs.Choice.{pick};
 ghost use Rattle.words.specs.Checks.{value, refused};
@@ -19,6 +19,7 @@ use group::all_exponents;
 use group::is_exponent;
 pub use members::is_member;
 use members::is_quorum;
+pub use settings::setting_in;
 pub use settings::setting_of;
 pub use shares::opens;
 pub use shares::recovered_from;
@@ -87,12 +88,12 @@ pub fn degree_check_in(s: Setting, vs: &[u32], ds: &[u32]) -> CheckAnswer
     passed_if(degree_passes(s, vs, ds), 9)
 }
 
-// The degree check of the commitments vs by the check polynomial ds. Refused: 1 and 2 as setting_of; 3 not n commitments
-// or not n - t coefficients; 6 a commitment that is no element; 7 a coefficient not below q; 9 the product is not 1.
-pub fn degree_check(rd: Round, vs: &[u32], ds: &[u32]) -> CheckAnswer
-    ensures { λ r. ⌜ checkOutcomeOf r ≡ degreeOutcome rd (now (vs .entry)) (now (ds .entry)) ⌝ }
+// The degree check of the commitments vs by the check polynomial ds. Refused: as setting_of; 3 not n commitments or
+// not n - t coefficients; 6 a commitment that is no element; 7 a coefficient not below q; 9 the product is not 1.
+pub fn degree_check(table: &[u8], rd: Round, vs: &[u32], ds: &[u32]) -> CheckAnswer
+    ensures { λ r. ⌜ checkOutcomeOf r ≡ degreeOutcome (now (table .entry)) rd (now (vs .entry)) (now (ds .entry)) ⌝ }
 {
-    match setting_of(rd) {
+    match setting_of(table, rd) {
         SettingAnswer::Refused(k) => CheckAnswer::Refused(k),
         SettingAnswer::Value(s) => degree_check_in(s, vs, ds),
     }
@@ -115,12 +116,12 @@ pub fn opening_in(s: Setting, vs: &[u32], u: Exponent) -> CheckAnswer
     passed_if(opens(s, vs, u), 11)
 }
 
-// Whether u opens the commitments vs: g to the power u is what the first t of them give at 0. Refused: 1 and 2 as
+// Whether u opens the commitments vs: g to the power u is what the first t of them give at 0. Refused: as
 // setting_of; 3 not n commitments; 6 a commitment that is no element; 7 u is not below q; 11 u is not right.
-pub fn opening(rd: Round, vs: &[u32], u: Exponent) -> CheckAnswer
-    ensures { λ r. ⌜ checkOutcomeOf r ≡ openingOutcome rd (now (vs .entry)) (u .0) ⌝ }
+pub fn opening(table: &[u8], rd: Round, vs: &[u32], u: Exponent) -> CheckAnswer
+    ensures { λ r. ⌜ checkOutcomeOf r ≡ openingOutcome (now (table .entry)) rd (now (vs .entry)) (u .0) ⌝ }
 {
-    match setting_of(rd) {
+    match setting_of(table, rd) {
         SettingAnswer::Refused(k) => CheckAnswer::Refused(k),
         SettingAnswer::Value(s) => opening_in(s, vs, u),
     }
@@ -143,12 +144,12 @@ pub fn recovery_in(s: Setting, ms: &[u32], ss: &[u32]) -> ElementAnswer
     ElementAnswer::Value(recovered_from(s.group, ms, ss))
 }
 
-// The secret that the shares ss of the members ms give. Refused: 1 and 2 as setting_of; 3 not one share to a member;
+// The secret that the shares ss of the members ms give. Refused: as setting_of; 3 not one share to a member;
 // 8 fewer than t members, one outside 1 to n, or one twice; 6 a share that is no element.
-pub fn recovery(rd: Round, ms: &[u32], ss: &[u32]) -> ElementAnswer
-    ensures { λ r. ⌜ elementOutcomeOf r ≡ recoveryOutcome rd (now (ms .entry)) (now (ss .entry)) ⌝ }
+pub fn recovery(table: &[u8], rd: Round, ms: &[u32], ss: &[u32]) -> ElementAnswer
+    ensures { λ r. ⌜ elementOutcomeOf r ≡ recoveryOutcome (now (table .entry)) rd (now (ms .entry)) (now (ss .entry)) ⌝ }
 {
-    match setting_of(rd) {
+    match setting_of(table, rd) {
         SettingAnswer::Refused(k) => ElementAnswer::Refused(k),
         SettingAnswer::Value(s) => recovery_in(s, ms, ss),
     }

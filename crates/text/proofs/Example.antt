@@ -1,11 +1,10 @@
 -- The text of the scope paper's round, by computation.
 use mathlib.Core.Path.{refl}
-use Rattle.words.specs.Bytes.{wordAt, wordBytes, wordsBytes, recordBytes, recordIn}
+use Rattle.words.specs.Bytes.{wordAt, wordBytes, wordsBytes, recordBytes, recordIn, recordAt, agrees}
 use Rattle.group.specs.Power.{pow}
-use Rattle.group.specs.Table.{isGroup, groupOf}
-use Rattle.group.specs.Element.{isElement}
-use Rattle.sharing.specs.Setting.{inRange, roundChecks, judged, isMember}
-use Rattle.records.specs.Layout.{agrees, recordAt}
+use Rattle.group.specs.Table.{groupsOf, tableChecks, isGroup, groupOf}
+use Rattle.group.specs.Element.{isElement, isGenerator}
+use Rattle.sharing.specs.Setting.{inRange, roundFigures, roundChecks, judged, isMember}
 use Rattle.records.specs.Keys.{isKey, keyChecks}
 use Rattle.board.specs.Board.{isShaped, isBelow, formChecks, placeOf, recordBy, isAt, keyIn, boardKeyChecks, boardChecks, lineCount}
 use Rattle.verdicts.specs.Verdict.{verdictOn}
@@ -14,5 +13,5 @@ use Rattle.text.specs.Text.{digits, figure, refusedLine, dealerLine, rou
 use Rattle.text.specs.Claims.{ExampleRound}
 
 pub example-round : ExampleRound
-unfolding wordAt wordBytes wordsBytes recordBytes recordIn pow isGroup groupOf isElement inRange roundChecks judged isMember agrees recordAt isKey keyChecks isShaped isBelow formChecks placeOf recordBy isAt keyIn boardKeyChecks boardChecks lineCount verdictOn drawIn digits figure refusedLine dealerLine roundLine acceptedLine report boardText drawText
+unfolding wordAt wordBytes wordsBytes recordBytes recordIn pow groupsOf tableChecks isGroup groupOf isElement inRange roundFigures roundChecks judged isMember agrees recordAt isGenerator isKey keyChecks isShaped isBelow formChecks placeOf recordBy isAt keyIn boardKeyChecks boardChecks lineCount verdictOn drawIn digits figure refusedLine dealerLine roundLine acceptedLine report boardText drawText
 example-round = refl

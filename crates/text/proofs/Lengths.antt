@@ -20,7 +20,7 @@ use Rattle.verdicts.specs.declared.Secret.{Secret}
 use Rattle.verdicts.specs.declared.Secret.the-variants.{Opened, Recovered, Stuck}
 use Rattle.verdicts.specs.declared.Verdict.{Verdict}
 use Rattle.verdicts.specs.declared.Verdict.the-variants.{None, Refused, Accepted}
-use Rattle.text.specs.Text.{figure, newLine, dealerWord, openedWord, recoveredWord, refusedWord, roundWord, acceptedWord, drawWord, secretText, verdictText, dealerLine, dealerLines, refusedLine, drawLine, roundLine, acceptedLine, textOf, report, boardText, setChecks, roundIn, drawText}
+use Rattle.text.specs.Text.{figure, newLine, dealerWord, openedWord, recoveredWord, refusedWord, roundWord, acceptedWord, drawWord, secretText, verdictText, dealerLine, dealerLines, refusedLine, drawLine, roundLine, acceptedLine, textOf, report, boardText, fileChecks, roundIn, drawText}
 use Rattle.text.specs.Buffer.{Room}
 use Rattle.text.specs.Claims.{TextFits}
 use Rattle.text.proofs.Decimals.{figure-most, short-figure}
@@ -114,18 +114,18 @@ text-most (refused k) h = omega (arith, refused-most k)
 outcome-most : (cs : List Check) (a t : List ℕ) → length a ≤ 1024 → outcome cs a ≡ value t → length t ≤ 1024
 outcome-most cs a t h e = subst (λ (x : List ℕ). length x ≤ 1024) (value-met cs a t e .1) h
 
-board-most : (J : Judges) (R : Round) (b : List ℕ) → length (boardText J R b) ≤ 1024
+board-most : (J : Judges) (T : List ℕ) (R : Round) (b : List ℕ) → length (boardText J T R b) ≤ 1024
 unfolding boardText
-board-most J R b =
-    text-most (judged R (λ S. boardChecks S b) (λ S. report J S b)) λ t e.
-    let w = judged-exactly R (λ S. boardChecks S b) (λ S. report J S b) t .0 e in
-    outcome-most (boardChecks (settingIn R) b) (report J (settingIn R) b) t (report-most J (settingIn R) b (round-proper R (w .0))) (w .1)
+board-most J T R b =
+    text-most (judged T R (λ S. boardChecks S b) (λ S. report J S b)) λ t e.
+    let w = judged-exactly T R (λ S. boardChecks S b) (λ S. report J S b) t .0 e in
+    outcome-most (boardChecks (settingIn T R) b) (report J (settingIn T R) b) t (report-most J (settingIn T R) b (round-proper T R (w .0))) (w .1)
 
 pub text-fits : TextFits
 unfolding drawText
-text-fits J s b =
-    text-most (outcome (setChecks s) (boardText J (roundIn s) b))
-    λ t e. outcome-most (setChecks s) (boardText J (roundIn s) b) t (board-most J (roundIn s) b) e
+text-fits J T s b =
+    text-most (outcome (fileChecks T s) (boardText J T (roundIn s) b))
+    λ t e. outcome-most (fileChecks T s) (boardText J T (roundIn s) b) t (board-most J T (roundIn s) b) e
 
 -- ---- room in a buffer of 1,024 bytes
 module _ (l : List ℕ) (e : length l ≡ 1024) where
@@ -136,5 +136,5 @@ module _ (l : List ℕ) (e : length l ≡ 1024) where
   report-room J S b P = record { fits = omega (arith, report-most J S b P) }
 
 -- what `draw_text` answers is within the buffer
-pub text-within : (J : Judges) (s b l m : List ℕ) (r : ℕ) → (r ≡ length (drawText J s b)) × (m ≡ drawText J s b ++ drop r l) → r ≤ length m
-text-within J s b l m r e = omega (arith, e .0, ap length (e .1), length-append (drawText J s b) (drop r l))
+pub text-within : (J : Judges) (T s b l m : List ℕ) (r : ℕ) → (r ≡ length (drawText J T s b)) × (m ≡ drawText J T s b ++ drop r l) → r ≤ length m
+text-within J T s b l m r e = omega (arith, e .0, ap length (e .1), length-append (drawText J T s b) (drop r l))

@@ -1,22 +1,25 @@
 -- What is written from the board judge's answer is the report on the board, and which text is due by what is refused.
-use mathlib.Core.Path.{_≡_, sym, ap, _∙_}
+use mathlib.Core.Path.{_≡_, refl, sym, ap, _∙_}
 use mathlib.Core.List.{List, _++_}
-use Prim.Native.Nat.{ℕ, suc, _≤_}
+use Prim.Native.Nat.{ℕ, suc, _≤_, _<_}
 use native.Mathlib.Omega.{arith}
 use borrow.Author.Tests.{le-leb}
 use lib.Dec.{leb}
 use Rattle.words.specs.Lists.{map, upFrom}
-use Rattle.words.specs.Checks.{Check, refusal, outcome, Met}
-use Rattle.words.proofs.Lists.{All-to, take-map, map-comp, map-same, up-take, up-within}
+use Rattle.words.specs.Checks.{Check, refusal, outcome, Met, Numbered}
+use Rattle.words.proofs.Lists.{All-to, All-append, take-map, map-comp, map-same, up-take, up-within}
 use Rattle.words.proofs.Tests.{pick-true}
-use Rattle.words.proofs.Checks.{value-exactly}
-use Rattle.words.proofs.Stages.{rest-outcome, last-refused}
+use Rattle.words.proofs.Checks.{value-exactly, none-exactly, numbered}
+use Rattle.words.proofs.Stages.{met-both, rest-outcome, front-outcome, last-refused}
 use Rattle.group.specs.Answer.{elementOutcomeOf}
-use Rattle.sharing.specs.Setting.{settingOutcomeOf, settingOutcome, members}
+use Rattle.group.specs.Table.{tableChecks}
+use Rattle.group.proofs.Turns.{table-numbered}
+use Rattle.sharing.specs.Setting.{ProperSetting, settingOutcomeOf, figuresOutcome, settingOutcome, members}
 use Rattle.sharing.specs.declared.Setting.{Setting}
 use Rattle.sharing.specs.declared.SettingAnswer.{SettingAnswer}
 use Rattle.sharing.specs.declared.SettingAnswer.the-variants.{Value, Refused}
-use Rattle.sharing.proofs.Rounds.{judged-refused, judged-value}
+use Rattle.sharing.proofs.Rounds.{judged-refused, judged-value, figures-setting, setting-proper}
+use Rattle.sharing.proofs.Theorems.{groups-alone}
 use Rattle.board.specs.Board.{boardChecks}
 use Rattle.verdicts.specs.Shares.{Judges}
 use Rattle.verdicts.specs.Verdict.{verdictOn, verdictsOn}
@@ -25,7 +28,8 @@ use Rattle.verdicts.specs.Answered.{JudgementIn}
 use Rattle.verdicts.specs.declared.Verdict.{Verdict}
 use Rattle.verdicts.specs.declared.Verdict.the-variants.{None}
 use Rattle.verdicts.specs.declared.Judgement.{Judgement}
-use Rattle.text.specs.Text.{dealerLines, refusedLine, drawLine, roundLine, acceptedLine, textOf, report, boardTextIn, boardText, setChecks, roundIn, drawText}
+use Rattle.text.specs.Text.{dealerLines, refusedLine, drawLine, roundLine, acceptedLine, textOf, report, boardTextIn, boardText, setChecks, roundIn, fileChecks, drawText}
+use Rattle.text.specs.Claims.{TableFirst, TextByGroups}
 use Rattle.text.specs.Report.{verdictAt, verdictsAt, reportFrom}
 
 -- the first n of the verdicts in the array
@@ -56,12 +60,45 @@ module _ (cs : List Check) (t : List ℕ) where
   pub text-passed : Met cs → textOf (outcome cs t) ≡ t
   text-passed m = ap textOf (value-exactly (List ℕ) cs t .1 m)
 
--- by what the round of an accepted set gives
-module _ (J : Judges) (s b : List ℕ) (m : Met (setChecks s)) {r : SettingAnswer} (e : settingOutcomeOf r ≡ settingOutcome (roundIn s)) where
-  pub round-refused : {k : ℕ} → r ≡ Refused k → drawText J s b ≡ refusedLine k
-  unfolding boardText drawText
-  round-refused f = text-passed (setChecks s) (boardText J (roundIn s) b) m ∙ sym (ap textOf (judged-refused (roundIn s) _ _ e f))
+-- both files are accepted where their function answers 0
+pub files-met : (T s : List ℕ) {k : ℕ} → k ≡ refusal (fileChecks T s) → k ≡ 0 → Met (fileChecks T s)
+files-met T s e z = none-exactly (fileChecks T s) n .0 (sym e ∙ z)
+  where
+    n : Numbered (fileChecks T s)
+    n = All-append (λ (c : Check). 0 < c .number) (tableChecks T) (setChecks s) (table-numbered T) (numbered (setChecks s) refl)
 
-  pub round-passed : {S : Setting} → r ≡ Value S → drawText J s b ≡ boardTextIn J S b
-  unfolding boardTextIn boardText drawText
-  round-passed f = text-passed (setChecks s) (boardText J (roundIn s) b) m ∙ sym (ap textOf (judged-value (roundIn s) _ _ e f))
+-- by what the round of an accepted set gives, in an accepted table
+module _ (J : Judges) (T s b : List ℕ) (m : Met (fileChecks T s)) where
+  accepted : figuresOutcome T (roundIn s) ≡ settingOutcome T (roundIn s)
+  accepted = figures-setting T (roundIn s) (met-both (tableChecks T) (setChecks s) m .0)
+
+  passed-to : drawText J T s b ≡ boardText J T (roundIn s) b
+  unfolding drawText
+  passed-to = text-passed (fileChecks T s) (boardText J T (roundIn s) b) m
+
+  module _ {r : SettingAnswer} (e : settingOutcomeOf r ≡ figuresOutcome T (roundIn s)) where
+    pub round-refused : {k : ℕ} → r ≡ Refused k → drawText J T s b ≡ refusedLine k
+    unfolding boardText
+    round-refused f = passed-to ∙ sym (ap textOf (judged-refused T (roundIn s) _ _ (e ∙ accepted) f))
+
+    pub round-passed : {S : Setting} → r ≡ Value S → drawText J T s b ≡ boardTextIn J S b
+    unfolding boardTextIn boardText
+    round-passed f = passed-to ∙ sym (ap textOf (judged-value T (roundIn s) _ _ (e ∙ accepted) f))
+
+    pub round-proper : {S : Setting} → r ≡ Value S → ProperSetting S
+    round-proper f = setting-proper T (roundIn s) (e ∙ accepted) f
+
+-- ---- the table
+pub table-first : TableFirst
+unfolding drawText
+table-first J T s b k u = sym (ap textOf (front-outcome (tableChecks T) (setChecks s) k u (boardText J T (roundIn s) b)))
+
+pub text-by-groups : TextByGroups
+unfolding boardText drawText
+text-by-groups J T₁ T₂ s b m₁ m₂ e =
+    let board : boardText J T₁ (roundIn s) b ≡ boardText J T₂ (roundIn s) b =
+    ap textOf (groups-alone T₁ T₂ (roundIn s) m₁ m₂ e .answer (λ S. boardChecks S b) (λ S. report J S b)) in
+    ap textOf
+    (sym (rest-outcome (tableChecks T₁) (setChecks s) m₁ (boardText J T₁ (roundIn s) b))
+    ∙ ap (outcome (setChecks s)) board
+    ∙ rest-outcome (tableChecks T₂) (setChecks s) m₂ (boardText J T₂ (roundIn s) b))

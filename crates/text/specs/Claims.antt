@@ -3,14 +3,26 @@ use mathlib.Core.Path.{_≡_}
 use mathlib.Core.List.{List, [], _∷_, _++_}
 use Prim.Native.Nat.{ℕ, _≤_}
 use lib.ListN.{length}
+use Rattle.words.specs.Checks.{Met, FirstUnmet}
 use Rattle.words.specs.Bytes.{recordBytes}
+use Rattle.group.specs.Table.{groupsOf, tableChecks}
 use Rattle.records.specs.Layout.{keyLayout, setLayout}
 use Rattle.verdicts.specs.Shares.{Judges, judges}
-use Rattle.text.specs.Text.{drawText}
+use Rattle.text.specs.Text.{refusedLine, drawText}
 
 -- no text is longer than 1,024 bytes
 abbrev pub TextFits : Type 0
-TextFits = (J : Judges) (s b : List ℕ) → length (drawText J s b) ≤ 1024
+TextFits = (J : Judges) (T s b : List ℕ) → length (drawText J T s b) ≤ 1024
+
+-- a table that is refused gives one line, whatever the other files hold
+abbrev pub TableFirst : Type 0
+TableFirst = (J : Judges) (T s b : List ℕ) (k : ℕ) → FirstUnmet k (tableChecks T) → drawText J T s b ≡ refusedLine k
+
+-- of an accepted table nothing but its groups enters the text; so a table of the built-in groups gives that of no bytes
+abbrev pub TextByGroups : Type 0
+TextByGroups =
+    (J : Judges) (T₁ T₂ s b : List ℕ) → Met (tableChecks T₁) → Met (tableChecks T₂) → groupsOf T₁ ≡ groupsOf T₂
+    → drawText J T₁ s b ≡ drawText J T₂ s b
 
 -- ---- the scope paper's round: group 1, n = 2, t = 1, and a board of the keys 12 and 9
 -- its round.set
@@ -33,4 +45,4 @@ exampleText =
 
 -- its text is these five lines
 abbrev pub ExampleRound : Type 0
-ExampleRound = drawText judges exampleSet exampleBoard ≡ exampleText
+ExampleRound = drawText judges [] exampleSet exampleBoard ≡ exampleText

@@ -6,6 +6,7 @@ use lib.Dec.{ltb, eqb}
 use Rattle.words.specs.Choice.{pick}
 use Rattle.words.specs.Checks.{Check, _unless_, Outcome, value, refused, outcome}
 use Rattle.words.specs.Bytes.{recordIn}
+use Rattle.group.specs.Table.{tableChecks}
 use Rattle.group.specs.declared.Element.{Element}
 use Rattle.sharing.specs.Setting.{judged}
 use Rattle.sharing.specs.declared.Round.{Round}
@@ -111,12 +112,12 @@ unfoldable pub report : Judges → Setting → List ℕ → List ℕ
 report J S b =
     roundLine S ++ (dealerLines 1 (verdictsOn J S b) ++ (acceptedLine (countAccepted (verdictsOn J S b)) ++ drawLine (drawIn J S b)))
 
--- of a board, in a setting and over a round
+-- of a board, in a setting and over a table and a round
 unfoldable pub boardTextIn : Judges → Setting → List ℕ → List ℕ
 boardTextIn J S b = textOf (outcome (boardChecks S b) (report J S b))
 
-unfoldable pub boardText : Judges → Round → List ℕ → List ℕ
-boardText J R b = textOf (judged R (λ S. boardChecks S b) (λ S. report J S b))
+unfoldable pub boardText : Judges → List ℕ → Round → List ℕ → List ℕ
+boardText J T R b = textOf (judged T R (λ S. boardChecks S b) (λ S. report J S b))
 
 -- ---- round.set: one record
 -- another length by 3, another shape by 4
@@ -132,6 +133,10 @@ roundIn s =
     let r = recordIn s in
     record { group = setGroup r; n = setN r; t = setT r; round = setRound r; first = setFirst r }
 
--- of the bytes of round.set and board.bin
-unfoldable pub drawText : Judges → List ℕ → List ℕ → List ℕ
-drawText J s b = textOf (outcome (setChecks s) (boardText J (roundIn s) b))
+-- ---- the files: groups.tab comes first
+abbrev pub fileChecks : List ℕ → List ℕ → List Check
+fileChecks T s = tableChecks T ++ setChecks s
+
+-- of the bytes of groups.tab, round.set and board.bin
+unfoldable pub drawText : Judges → List ℕ → List ℕ → List ℕ → List ℕ
+drawText J T s b = textOf (outcome (fileChecks T s) (boardText J T (roundIn s) b))

@@ -1,11 +1,11 @@
-// The text that `draw` prints, from the bytes of its two files.
+// The text that `draw` prints, from the bytes of its three files.
 ghost use mathlib.Core.Path.{_≡_};
 ghost use mathlib.Core.List.{_++_};
 ghost use lib.ListN.{length, drop};
 ghost use Rattle.words.specs.Checks.{refusal};
 ghost use Rattle.sharing.specs.Setting.{ProperSetting};
 ghost use Rattle.verdicts.specs.Shares.{judges};
-ghost use Rattle.text.specs.Text.{setChecks, boardTextIn, drawText};
+ghost use Rattle.text.specs.Text.{setChecks, fileChecks, boardTextIn, drawText};
 ghost use Rattle.text.specs.Buffer.{Written};
 
 mod buffer;
@@ -13,13 +13,14 @@ mod lines;
 mod report;
 
 use board::board_refusal_in;
+use group::table_refusal;
 use lines::put_line;
 use records::is_set_record;
 use report::put_report;
 use sharing::Round;
 use sharing::Setting;
 use sharing::SettingAnswer;
-use sharing::setting_of;
+use sharing::setting_in;
 use verdicts::all_verdicts;
 use words::read_record;
 
@@ -37,6 +38,18 @@ fn set_refusal(set: &[u8]) -> u32
     0
 }
 
+// What the bytes of groups.tab and of round.set are refused by: 3, 4, 20 and 21 the table, as table_refusal; 3 and 4 the set. 0 where they
+// are not.
+fn files_refusal(table: &[u8], set: &[u8]) -> u32
+    ensures { λ r. ⌜ r ≡ refusal (fileChecks (now (table .entry)) (now (set .entry))) ⌝ }
+{
+    let k = table_refusal(table);
+    if k != 0 {
+        return k;
+    }
+    set_refusal(set)
+}
+
 // Writes the text of a board in a setting at the start of `out`, and answers its length.
 // Internal: callers ensure that the setting is proper, and lend 1,024 bytes.
 fn put_board(out: &mut [u8], s: Setting, board: &[u8]) -> usize
@@ -50,13 +63,13 @@ fn put_board(out: &mut [u8], s: Setting, board: &[u8]) -> usize
     put_report(out, s, all_verdicts(s, board))
 }
 
-// Writes what `draw` prints for the bytes of round.set and of board.bin at the start of `out`, and answers how many bytes that is. The
-// other bytes of `out` are kept.
-pub fn draw_text(set: &[u8], board: &[u8], out: &mut [u8; 1024]) -> usize
-    ensures { λ r. ⌜ (r ≡ length (drawText judges (now (set .entry)) (now (board .entry))))
-        × (now (out .exit) ≡ drawText judges (now (set .entry)) (now (board .entry)) ++ drop r (now (out .entry))) ⌝ }
+// Writes what `draw` prints for the bytes of groups.tab, of round.set and of board.bin at the start of `out`, and answers how many bytes
+// that is. The other bytes of `out` are kept.
+pub fn draw_text(table: &[u8], set: &[u8], board: &[u8], out: &mut [u8; 1024]) -> usize
+    ensures { λ r. ⌜ (r ≡ length (drawText judges (now (table .entry)) (now (set .entry)) (now (board .entry))))
+        × (now (out .exit) ≡ drawText judges (now (table .entry)) (now (set .entry)) (now (board .entry)) ++ drop r (now (out .entry))) ⌝ }
 {
-    let k = set_refusal(set);
+    let k = files_refusal(table, set);
     if k != 0 {
         return put_line(out, 0, b"refused", k);
     }
@@ -68,7 +81,7 @@ pub fn draw_text(set: &[u8], board: &[u8], out: &mut [u8; 1024]) -> usize
         round: r.w4,
         first: r.w5,
     };
-    match setting_of(rd) {
+    match setting_in(table, rd) {
         SettingAnswer::Refused(k) => put_line(out, 0, b"refused", k),
         SettingAnswer::Value(s) => put_board(out, s, board),
     }

@@ -10,7 +10,7 @@ use crate::print;
 use words::Record;
 
 // Copies the bytes of `from` from `start` up to `end` to `to` from `place` on, as far as both reach. Returns the place behind them.
-fn copy(from: &[u8], start: usize, end: usize, to: &mut [u8], place: usize) -> usize {
+pub(crate) fn copy(from: &[u8], start: usize, end: usize, to: &mut [u8], place: usize) -> usize {
     let mut i = start;
     let mut k = place;
     while i < end {
@@ -56,6 +56,7 @@ pub(crate) fn load(case: Record, space: &[u8], base: &mut [u8; 65600]) {
 pub(crate) fn run(
     case: Record,
     numbers: Numbers,
+    table: &[u8],
     space: &[u8],
     base: &[u8],
     built: &mut [u8; 65600],
@@ -69,10 +70,10 @@ pub(crate) fn run(
     let board = payload::part(&built[..], 0, length);
     let operation = case.w0;
     match operation {
-        11 => lines::check(case, numbers, board),
-        12 => lines::part(case, numbers, board),
-        17 => chains::judge(board),
-        18 => chains::extend(case, board),
-        _ => draw_text::run(payload::part(space, 0, from), board),
+        11 => lines::check(case, numbers, table, board),
+        12 => lines::part(case, numbers, table, board),
+        17 => chains::judge(table, board),
+        18 => chains::extend(case, table, board),
+        _ => draw_text::run(table, payload::part(space, 0, from), board),
     }
 }

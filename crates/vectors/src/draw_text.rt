@@ -1,4 +1,4 @@
-// Cases of the text of `draw`, from the bytes of the set and of the board. Its length is in the case's line, and the text
+// Cases of the text of `draw`, from the bytes of the table, of the set and of the board. Its length is in the case's line, and the text
 // follows.
 use crate::payload;
 use crate::print;
@@ -8,8 +8,8 @@ fn print_text(out: &[u8; 1024], size: usize) {
     print::text(payload::part(&out[..], 0, size));
 }
 
-pub(crate) fn run(set: &[u8], board: &[u8]) {
+pub(crate) fn run(table: &[u8], set: &[u8], board: &[u8]) {
     let mut out = [0u8; 1024];
-    let size = text::draw_text(set, board, &mut out);
+    let size = text::draw_text(table, set, board, &mut out);
     print_text(&out, size);
 }

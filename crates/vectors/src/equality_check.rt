@@ -7,7 +7,7 @@ use group::Element;
 use group::Exponent;
 use words::Record;
 
-pub(crate) fn run(case: Record, space: &[u8]) {
+pub(crate) fn run(case: Record, table: &[u8], space: &[u8]) {
     let figures = payload::figures(space);
     let proof = Equality {
         b1: Element(figures.w0),
@@ -19,5 +19,6 @@ pub(crate) fn run(case: Record, space: &[u8]) {
         c: Exponent(figures.w6),
         r: Exponent(figures.w7),
     };
-    print::check(b"equality ", equality::equality_check(case.w1, proof));
+    let answer = equality::equality_check(table, case.w1, proof);
+    print::check(b"equality ", answer);
 }

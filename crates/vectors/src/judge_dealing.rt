@@ -5,10 +5,11 @@ use crate::payload::Numbers;
 use crate::print;
 use words::Record;
 
-pub(crate) fn run(case: Record, numbers: Numbers, space: &[u8]) {
+pub(crate) fn run(case: Record, numbers: Numbers, table: &[u8], space: &[u8]) {
     let ys = payload::list(space, 0);
     let keys = payload::first(&ys, case.w5);
     let lines = payload::part(space, 4 * case.w5 as usize, case.w6 as usize);
-    let answer = dealing::judge_dealing(payload::round(case, numbers), case.w4, keys, lines);
+    let rd = payload::round(case, numbers);
+    let answer = dealing::judge_dealing(table, rd, case.w4, keys, lines);
     print::check(b"judge_dealing ", answer);
 }

@@ -6,17 +6,17 @@ use crate::print;
 use group::Element;
 use words::Record;
 
-pub(crate) fn run(case: Record, numbers: Numbers, space: &[u8]) {
+pub(crate) fn run(case: Record, numbers: Numbers, table: &[u8], space: &[u8]) {
     let figures = payload::figures(space);
     let y = Element(figures.w0);
     let encrypted = Element(figures.w1);
     let record = payload::part(space, 8, case.w6 as usize);
     let rd = payload::round(case, numbers);
     if case.w0 == 21 {
-        let answer = share::judge_added(rd, case.w5, y, encrypted, record);
+        let answer = share::judge_added(table, rd, case.w5, y, encrypted, record);
         print::element(b"judge_added ", answer);
     } else {
-        let answer = share::judge_share(rd, case.w4, case.w5, y, encrypted, record);
+        let answer = share::judge_share(table, rd, case.w4, case.w5, y, encrypted, record);
         print::element(b"judge_share ", answer);
     }
 }

@@ -32,10 +32,11 @@ fn read_payload(space: &mut [u8], count: usize) -> bool {
     io::read_full(STDIN_FILENO, &mut space[0..count]) == count
 }
 
-// Calls the operation of a case with its payload, in the round of these numbers.
+// Calls the operation of a case with its payload, in the round of these numbers and by this table.
 fn run(
     case: Record,
     numbers: Numbers,
+    table: &[u8],
     space: &mut [u8],
     base: &mut [u8; 65600],
     built: &mut [u8; 65600],
@@ -43,32 +44,29 @@ fn run(
     let operation = case.w0;
     match operation {
         1 => digest::run(case, space),
-        2 => power::run(case),
-        3 => degree::run(case, numbers, space),
-        4 => opening::run(case, numbers, space),
-        5 => recovery::run(case, numbers, space),
-        6 => equality_check::run(case, space),
-        7 => write_dealing::run(case, numbers, space),
-        8 => judge_dealing::run(case, numbers, space),
-        9 | 20 => write_share::run(case, numbers, space),
-        10 | 21 => judge_share::run(case, numbers, space),
-        11..=13 => boards::run(case, numbers, space, base, built),
+        2 => power::run(case, table),
+        3 => degree::run(case, numbers, table, space),
+        4 => opening::run(case, numbers, table, space),
+        5 => recovery::run(case, numbers, table, space),
+        6 => equality_check::run(case, table, space),
+        7 => write_dealing::run(case, numbers, table, space),
+        8 => judge_dealing::run(case, numbers, table, space),
+        9 | 20 => write_share::run(case, numbers, table, space),
+        10 | 21 => judge_share::run(case, numbers, table, space),
+        11..=13 => boards::run(case, numbers, table, space, base, built),
         14 => boards::load(case, space, base),
-        15 => pick_plots::run(case),
+        15 => pick_plots::run(case, table),
         16 => print::length(b"round ", numbers.round as usize),
-        17..=18 => boards::run(case, numbers, space, base, built),
+        17..=18 => boards::run(case, numbers, table, space, base, built),
         19 => print::length(b"first ", numbers.first as usize),
+        22 => print::length(b"table ", table.len()),
         _ => print::no_case(),
     }
 }
 
-// A number that cases of one operation set for those behind them.
-fn set_by(operation: u32, case: Record, before: u32) -> u32 {
-    if case.w0 == operation {
-        case.w1
-    } else {
-        before
-    }
+// What cases of one operation set for those behind them.
+fn set_by(operation: u32, case: Record, value: u32, before: u32) -> u32 {
+    if case.w0 == operation { value } else { before }
 }
 
 // Replays one case. False at the end of the input, and after a case that cannot be read.
@@ -76,6 +74,8 @@ fn replay(
     space: &mut [u8; 65600],
     base: &mut [u8; 65600],
     built: &mut [u8; 65600],
+    table: &mut [u8; 320],
+    size: &mut u32,
     round: &mut u32,
     first: &mut u32,
 ) -> bool {
@@ -89,13 +89,18 @@ fn replay(
         print::no_case();
         return false;
     }
-    *round = set_by(16, case, *round);
-    *first = set_by(19, case, *first);
+    if case.w0 == 22 {
+        boards::copy(space, 0, case.w7 as usize, table, 0);
+    }
+    *size = set_by(22, case, case.w7, *size);
+    *round = set_by(16, case, case.w1, *round);
+    *first = set_by(19, case, case.w1, *first);
     let numbers = Numbers {
         round: *round,
         first: *first,
     };
-    run(case, numbers, space, base, built);
+    let lent = payload::part(&table[..], 0, *size as usize);
+    run(case, numbers, lent, space, base, built);
     true
 }
 
@@ -105,10 +110,23 @@ fn main() {
     let mut space = [0u8; 65600];
     let mut base = [0u8; 65600];
     let mut built = [0u8; 65600];
+    // The table and its length. The longest has two records too many.
+    let mut table = [0u8; 320];
+    let mut size = 0;
     let mut round = 0;
     let mut first = 0;
     let mut turns = u32::MAX;
-    while turns > 0 && replay(&mut space, &mut base, &mut built, &mut round, &mut first) {
+    while turns > 0
+        && replay(
+            &mut space,
+            &mut base,
+            &mut built,
+            &mut table,
+            &mut size,
+            &mut round,
+            &mut first,
+        )
+    {
         turns -= 1;
     }
 }

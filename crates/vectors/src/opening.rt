@@ -5,10 +5,11 @@ use crate::print;
 use group::Exponent;
 use words::Record;
 
-pub(crate) fn run(case: Record, numbers: Numbers, space: &[u8]) {
+pub(crate) fn run(case: Record, numbers: Numbers, table: &[u8], space: &[u8]) {
     let vs = payload::list(space, 0);
     let commitments = payload::first(&vs, case.w5);
     let answer = sharing::opening(
+        table,
         payload::round(case, numbers),
         commitments,
         Exponent(case.w4),

@@ -5,12 +5,13 @@ use crate::print;
 use group::Element;
 use words::Record;
 
-fn pick(case: Record, space: &mut [u32]) {
+fn pick(case: Record, table: &[u8], space: &mut [u32]) {
     let size = case.w6 as usize;
     if space.len() < size {
         return print::no_case();
     }
     let answer = plots::pick_plots(
+        table,
         case.w1,
         Element(case.w2),
         case.w3,
@@ -22,7 +23,7 @@ fn pick(case: Record, space: &mut [u32]) {
 }
 
 // The longest list is a little longer than any that can be picked.
-pub(crate) fn run(case: Record) {
+pub(crate) fn run(case: Record, table: &[u8]) {
     let mut space = [0xa5a5a5a5u32; 4100];
-    pick(case, &mut space);
+    pick(case, table, &mut space);
 }

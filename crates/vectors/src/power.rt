@@ -4,7 +4,7 @@ use group::Element;
 use group::Exponent;
 use words::Record;
 
-pub(crate) fn run(case: Record) {
-    let answer = group::power(case.w1, Element(case.w2), Exponent(case.w3));
+pub(crate) fn run(case: Record, table: &[u8]) {
+    let answer = group::power(table, case.w1, Element(case.w2), Exponent(case.w3));
     print::element(b"power ", answer);
 }

@@ -6,7 +6,7 @@ use crate::payload::Numbers;
 use crate::print;
 use words::Record;
 
-pub(crate) fn run(case: Record, numbers: Numbers, space: &mut [u8]) {
+pub(crate) fn run(case: Record, numbers: Numbers, table: &[u8], space: &mut [u8]) {
     let figures = payload::figures(space);
     let size = figures.w0 as usize;
     if space.len() < size {
@@ -17,6 +17,7 @@ pub(crate) fn run(case: Record, numbers: Numbers, space: &mut [u8]) {
     let f = payload::list(space, from);
     let ws = payload::list(space, from + figures.w2 as usize);
     let answer = dealing::write_dealing(
+        table,
         payload::round(case, numbers),
         case.w4,
         payload::first(&ys, figures.w1),

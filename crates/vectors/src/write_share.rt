@@ -8,7 +8,7 @@ use group::Element;
 use group::Exponent;
 use words::Record;
 
-pub(crate) fn run(case: Record, numbers: Numbers, space: &mut [u8]) {
+pub(crate) fn run(case: Record, numbers: Numbers, table: &[u8], space: &mut [u8]) {
     let size = case.w6 as usize;
     if space.len() < size {
         return print::no_case();
@@ -20,10 +20,10 @@ pub(crate) fn run(case: Record, numbers: Numbers, space: &mut [u8]) {
     let w = Exponent(figures.w2);
     let out = &mut space[0..size];
     if case.w0 == 20 {
-        let answer = share::write_added(rd, case.w5, encrypted, x, w, out);
+        let answer = share::write_added(table, rd, case.w5, encrypted, x, w, out);
         print::written(b"write_added ", answer, out);
     } else {
-        let answer = share::write_share(rd, case.w4, case.w5, encrypted, x, w, out);
+        let answer = share::write_share(table, rd, case.w4, case.w5, encrypted, x, w, out);
         print::written(b"write_share ", answer, out);
     }
 }

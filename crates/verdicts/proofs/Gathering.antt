@@ -9,9 +9,10 @@ use lib.ListN.{length, take, set, replicate, length-take, length-append}
 use lib.Seq.{take-nil, take-append-le}
 use Rattle.words.specs.Choice.{pick}
 use Rattle.words.specs.Lists.{map, upFrom, filled}
+use Rattle.words.specs.Bytes.{recordAt}
 use Rattle.words.proofs.Lists.{map-length, map-append, up-last, filled-none, filled-next}
 use Rattle.sharing.specs.declared.Setting.{Setting}
-use Rattle.records.specs.Layout.{memberOf, ZOf, recordAt}
+use Rattle.records.specs.Layout.{memberOf, ZOf}
 use Rattle.board.specs.Search.{filter}
 use Rattle.share.specs.declared.ShareForm.{ShareForm}
 use Rattle.verdicts.specs.Shares.{Judges, isShareIn, sharesIn}

@@ -44,28 +44,28 @@ module _ (J : Judges) (b : List ℕ) where
   drawn S = drawValue J S b
 
   -- ---- over a round, by the answer r of the function that gives its setting
-  module _ (R : Round) {r : SettingAnswer} (e : settingOutcomeOf r ≡ settingOutcome R) where
-    pub round-judged : {k : ℕ} → r ≡ Refused k → JudgementOf J R b (refusedBoard k)
+  module _ (T : List ℕ) (R : Round) {r : SettingAnswer} (e : settingOutcomeOf r ≡ settingOutcome T R) where
+    pub round-judged : {k : ℕ} → r ≡ Refused k → JudgementOf J T R b (refusedBoard k)
     unfolding refusedBoard drawOn
-    round-judged f = record { verdicts = judged-kept R checks verdicts e f noVerdicts; accepted = judged-kept R checks accepted e f 0; draw = judged-refused R draws drawn e f }
+    round-judged f = record { verdicts = judged-kept T R checks verdicts e f noVerdicts; accepted = judged-kept T R checks accepted e f 0; draw = judged-refused T R draws drawn e f }
 
     module _ (S : Setting) (f : r ≡ Value S) where
-      pub board-judged : {k : ℕ} → k ≡ refusal (checks S) → (k ≡ 0 → ⊥) → JudgementOf J R b (refusedBoard k)
+      pub board-judged : {k : ℕ} → k ≡ refusal (checks S) → (k ≡ 0 → ⊥) → JudgementOf J T R b (refusedBoard k)
       unfolding refusedBoard drawOn
       board-judged h n =
           record {
-            verdicts = last-kept (checks S) h n (verdicts S) noVerdicts ∙ judged-lent R checks verdicts e f noVerdicts;
-            accepted = last-kept (checks S) h n (accepted S) 0 ∙ judged-lent R checks accepted e f 0;
-            draw = stage-refused (checks S) h (drawChecks J S b) n (drawn S) ∙ judged-value R draws drawn e f;
+            verdicts = last-kept (checks S) h n (verdicts S) noVerdicts ∙ judged-lent T R checks verdicts e f noVerdicts;
+            accepted = last-kept (checks S) h n (accepted S) 0 ∙ judged-lent T R checks accepted e f 0;
+            draw = stage-refused (checks S) h (drawChecks J S b) n (drawn S) ∙ judged-value T R draws drawn e f;
           }
 
-      pub verdicts-judged : Met (checks S) → {A : Judgement} → JudgementIn J S b A → JudgementOf J R b A
+      pub verdicts-judged : Met (checks S) → {A : Judgement} → JudgementIn J S b A → JudgementOf J T R b A
       unfolding drawOf drawOn
       verdicts-judged m I =
           record {
-            verdicts = I .verdicts ∙ sym (if-met (verdicts S) noVerdicts (checks S) m) ∙ judged-lent R checks verdicts e f noVerdicts;
-            accepted = I .accepted ∙ sym (if-met (accepted S) 0 (checks S) m) ∙ judged-lent R checks accepted e f 0;
-            draw = I .draw ∙ rest-outcome (checks S) (drawChecks J S b) m (drawn S) ∙ judged-value R draws drawn e f;
+            verdicts = I .verdicts ∙ sym (if-met (verdicts S) noVerdicts (checks S) m) ∙ judged-lent T R checks verdicts e f noVerdicts;
+            accepted = I .accepted ∙ sym (if-met (accepted S) 0 (checks S) m) ∙ judged-lent T R checks accepted e f 0;
+            draw = I .draw ∙ rest-outcome (checks S) (drawChecks J S b) m (drawn S) ∙ judged-value T R draws drawn e f;
           }
 
 -- ---- in a setting, by what all dealers give

@@ -12,6 +12,7 @@ use lib.Dec.{leb, ltb}
 use Rattle.words.specs.Choice.{pick}
 use Rattle.words.specs.Lists.{Below, map, all, upFrom}
 use Rattle.words.specs.Checks.{Outcome, value, refused, isValue}
+use Rattle.words.specs.Bytes.{recordsIn, recordAt}
 use Rattle.words.proofs.Lists.{All-to, All-take, map-all, map-length, up-length, filled-front}
 use Rattle.words.proofs.Tests.{true-all, and-true, pick-true, pick-false}
 use Rattle.group.specs.Power.{pow}
@@ -24,7 +25,7 @@ use Rattle.sharing.specs.Setting.{members}
 use Rattle.sharing.specs.Answer.{openingFigures, openingEquation, openingIn, isOpening, recovered}
 use Rattle.sharing.specs.Carried.{Commitments}
 use Rattle.sharing.specs.declared.Setting.{Setting}
-use Rattle.records.specs.Layout.{memberOf, uOf, ZOf, recordAt}
+use Rattle.records.specs.Layout.{memberOf, uOf, ZOf}
 use Rattle.records.proofs.Members.{members-front, each-members, member-exactly}
 use Rattle.dealing.specs.Dealing.{vIn, YIn, vsIn}
 use Rattle.dealing.specs.Columns.{columnsOf}
@@ -32,7 +33,7 @@ use Rattle.dealing.specs.declared.Columns.{Columns}
 use Rattle.dealing.proofs.Judged.{dealing-exactly, accepted-passes}
 use Rattle.share.specs.Share.{openedForm, isDealer}
 use Rattle.share.specs.declared.ShareForm.{ShareForm}
-use Rattle.board.specs.Search.{filter, recordsIn}
+use Rattle.board.specs.Search.{filter}
 use Rattle.board.specs.Board.{keysIn, linesOf, openingPlace}
 use Rattle.board.proofs.Searches.{filter-up}
 use Rattle.board.specs.Sorted.{Sorted}

@@ -12,7 +12,7 @@ use lib.Seq.{length-take-le}
 use lib.Dec.{eqb}
 use Rattle.words.specs.Lists.{upFrom}
 use Rattle.words.specs.Checks.{Met, value, isValue}
-use Rattle.words.specs.Bytes.{recordIn}
+use Rattle.words.specs.Bytes.{recordIn, recordsIn, recordAt}
 use Rattle.words.specs.declared.Record.{Record}
 use Rattle.words.proofs.Tests.{all-true, and-true, pick-true, pick-false}
 use Rattle.words.proofs.Checks.{value-met}
@@ -22,14 +22,14 @@ use Rattle.group.specs.declared.Element.{Element}
 use Rattle.group.specs.declared.ElementAnswer.{ElementAnswer}
 use Rattle.group.specs.declared.ElementAnswer.the-variants.{Value, Refused}
 use Rattle.sharing.specs.declared.Setting.{Setting}
-use Rattle.records.specs.Layout.{isShareRecord, dealerOf, memberOf, yOf, ZOf, entry, recordAt}
+use Rattle.records.specs.Layout.{isShareRecord, dealerOf, memberOf, yOf, ZOf, entry}
 use Rattle.records.proofs.Members.{entry-all}
 use Rattle.share.specs.Share.{judgeShareChecks, judgeShareFiguresIn, judgeShareIn}
 use Rattle.share.specs.Claims.{AdmittedShare}
 use Rattle.share.specs.declared.ShareForm.{ShareForm}
 use Rattle.share.proofs.Settled.{dealer-most}
 use Rattle.share.proofs.Shares.{figures-decide}
-use Rattle.board.specs.Search.{filter, recordsIn}
+use Rattle.board.specs.Search.{filter}
 use Rattle.board.specs.Board.{formChecks, placeOf, keyPlace, keyIn}
 use Rattle.board.specs.Sorted.{Sorted}
 use Rattle.board.proofs.Searches.{filter-run}

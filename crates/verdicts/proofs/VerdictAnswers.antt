@@ -8,6 +8,7 @@ use borrow.Author.Tests.{eq-eqb, ne-eqb}
 use lib.ListN.{length}
 use lib.Dec.{eqb}
 use Rattle.words.specs.Checks.{Outcome, Met, outcome}
+use Rattle.words.specs.Bytes.{recordsIn}
 use Rattle.words.proofs.Lists.{map-length, up-length}
 use Rattle.words.proofs.Tests.{true-and, true-equal, pick-true, pick-false}
 use Rattle.sharing.specs.Setting.{ProperSetting, members}
@@ -19,7 +20,6 @@ use Rattle.records.proofs.Members.{members-exactly}
 use Rattle.dealing.specs.Dealing.{isLineFor, isLineOf, isLineOfRound, lineChecks, lineFigureChecks, judgeDealingIn}
 use Rattle.dealing.proofs.Settled.{FormedDealing}
 use Rattle.dealing.proofs.Judged.{figures-decide}
-use Rattle.board.specs.Search.{recordsIn}
 use Rattle.board.specs.Board.{boardChecks, keyIn, keysIn, lineCount, linesOf}
 use Rattle.board.specs.Claims.{ExactLines}
 use Rattle.board.proofs.Order.{Reached, reached}

@@ -82,8 +82,8 @@ boardDrawChecks J S b = boardChecks S b ++ drawChecks J S b
 unfoldable pub drawIn : Judges → Setting → List ℕ → Outcome Element
 drawIn J S b = outcome (boardDrawChecks J S b) (drawValue J S b)
 
-unfoldable pub drawOn : Judges → Round → List ℕ → Outcome Element
-drawOn J R b = judged R (λ S. boardDrawChecks J S b) (λ S. drawValue J S b)
+unfoldable pub drawOn : Judges → List ℕ → Round → List ℕ → Outcome Element
+drawOn J T R b = judged T R (λ S. boardDrawChecks J S b) (λ S. drawValue J S b)
 
 -- ---- the board judge's answer
 -- the places of 31 dealers, of whom the first n have a verdict
@@ -98,7 +98,7 @@ abbrev pub noVerdicts : List DealerVerdict
 noVerdicts = replicate 31 (record { verdict = None })
 
 -- of every round and board: no verdict where a check before them refuses
-pub record JudgementOf (J : Judges) (R : Round) (b : List ℕ) (A : Judgement) : Type 0 where
-  pub verdicts : A .verdicts ≡ judgedElse R (λ S. boardChecks S b) (λ S. verdictPlaces (verdictOn J S b) (S .n)) noVerdicts
-  pub accepted : A .accepted ≡ judgedElse R (λ S. boardChecks S b) (λ S. countAccepted (verdictsOn J S b)) 0
-  pub draw : elementOutcomeOf (A .draw) ≡ drawOn J R b
+pub record JudgementOf (J : Judges) (T : List ℕ) (R : Round) (b : List ℕ) (A : Judgement) : Type 0 where
+  pub verdicts : A .verdicts ≡ judgedElse T R (λ S. boardChecks S b) (λ S. verdictPlaces (verdictOn J S b) (S .n)) noVerdicts
+  pub accepted : A .accepted ≡ judgedElse T R (λ S. boardChecks S b) (λ S. countAccepted (verdictsOn J S b)) 0
+  pub draw : elementOutcomeOf (A .draw) ≡ drawOn J T R b

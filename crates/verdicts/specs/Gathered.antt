@@ -5,9 +5,10 @@ use Prim.Native.Nat.{ℕ, _+_}
 use lib.ListN.{length, take, set}
 use Rattle.words.specs.Choice.{pick}
 use Rattle.words.specs.Lists.{map, filled}
+use Rattle.words.specs.Bytes.{recordAt}
 use Rattle.field.specs.Residue.{mul}
 use Rattle.sharing.specs.declared.Setting.{Setting}
-use Rattle.records.specs.Layout.{memberOf, ZOf, recordAt}
+use Rattle.records.specs.Layout.{memberOf, ZOf}
 use Rattle.dealing.specs.Dealing.{YIn}
 use Rattle.share.specs.declared.ShareForm.{ShareForm}
 use Rattle.board.specs.Board.{linesOf}

@@ -7,13 +7,13 @@ use Prim.Native.Nat.{ℕ, _<_}
 use lib.ListN.{length}
 use Rattle.words.specs.Lists.{all}
 use Rattle.words.specs.Checks.{value, Met}
+use Rattle.words.specs.Bytes.{recordsIn, recordAt}
 use Rattle.group.specs.Element.{isElement}
 use Rattle.sharing.specs.Setting.{ProperSetting}
 use Rattle.sharing.specs.declared.Setting.{Setting}
-use Rattle.records.specs.Layout.{shareKind, addedKind, dealerOf, recordAt}
+use Rattle.records.specs.Layout.{shareKind, addedKind, dealerOf}
 use Rattle.share.specs.Share.{isDealer}
 use Rattle.share.specs.declared.ShareForm.{ShareForm}
-use Rattle.board.specs.Search.{recordsIn}
 use Rattle.board.specs.Board.{boardChecks}
 use Rattle.verdicts.specs.Shares.{judges}
 use Rattle.verdicts.specs.Verdict.{dealingAnswer}

@@ -7,15 +7,16 @@ use lib.ListN.{length, take, drop}
 use lib.Dec.{leb, eqb}
 use Rattle.words.specs.Lists.{map, upFrom}
 use Rattle.words.specs.Checks.{_unless_, Outcome, outcome, isValue}
+use Rattle.words.specs.Bytes.{recordsIn, recordAt}
 use Rattle.group.specs.declared.Element.{Element}
 use Rattle.group.specs.declared.Group.{Group}
 use Rattle.sharing.specs.Answer.{recovered}
 use Rattle.sharing.specs.declared.Setting.{Setting}
-use Rattle.records.specs.Layout.{dealerOf, memberOf, ZOf, entry, recordAt}
+use Rattle.records.specs.Layout.{dealerOf, memberOf, ZOf, entry}
 use Rattle.dealing.specs.Dealing.{judgeDealingIn}
 use Rattle.share.specs.Share.{judgeShareIn}
 use Rattle.share.specs.declared.ShareForm.{ShareForm}
-use Rattle.board.specs.Search.{filter, recordsIn}
+use Rattle.board.specs.Search.{filter}
 use Rattle.board.specs.Board.{keyIn}
 
 -- the judge of dealings, of setting, dealer, keys and lines; the judge of shares, of setting, form, member, y, Y and record

@@ -6,15 +6,15 @@ use lib.Dec.{ltb, eqb}
 use Rattle.words.specs.Choice.{pick}
 use Rattle.words.specs.Lists.{map}
 use Rattle.words.specs.Checks.{Outcome, value, refused, isValue}
+use Rattle.words.specs.Bytes.{recordsIn, recordAt}
 use Rattle.group.specs.Power.{pow}
 use Rattle.group.specs.declared.Element.{Element}
 use Rattle.sharing.specs.Setting.{members}
 use Rattle.sharing.specs.Answer.{openingIn}
 use Rattle.sharing.specs.declared.Setting.{Setting}
-use Rattle.records.specs.Layout.{uOf, recordAt}
+use Rattle.records.specs.Layout.{uOf}
 use Rattle.dealing.specs.Dealing.{vsIn, YIn}
 use Rattle.share.specs.Share.{openedForm}
-use Rattle.board.specs.Search.{recordsIn}
 use Rattle.board.specs.Board.{keysIn, lineCount, linesOf, openingPlace}
 use Rattle.verdicts.specs.Shares.{Judges, isShareIn, sharesIn, fromLowest}
 use Rattle.verdicts.specs.declared.Secret.{Secret}

@@ -24,9 +24,9 @@ use board::lines_of;
 use group::Element;
 use group::ElementAnswer;
 use group::Group;
-use records::record_at;
 use share::added_form;
 use sharing::Setting;
+use words::record_at;
 
 // 1 for each of n members, and 0 behind them. Internal: callers ensure at most 31 members.
 fn ones(n: usize) -> MemberProducts

@@ -10,11 +10,11 @@ use board::find_key;
 use board::place_of;
 use group::Element;
 use group::ElementAnswer;
-use records::record_at;
 use share::ShareForm;
 use share::judge_share_figures;
 use sharing::Setting;
 use sharing::recovered_from;
+use words::record_at;
 
 // What the judge of shares answers for the record i with the key of its member and his encrypted share: its figures decide, for the
 // board settles the rest.

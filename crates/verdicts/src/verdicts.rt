@@ -18,11 +18,11 @@ use dealing::judge_lines;
 use group::ElementAnswer;
 use group::Exponent;
 use group::is_exponent;
-use records::record_at;
 use share::opened_form;
 use sharing::CheckAnswer;
 use sharing::Setting;
 use sharing::opens;
+use words::record_at;
 
 // The secret from the t lowest members with accepted shares, stuck where there are fewer.
 // Internal: callers ensure that verdicts are reached, that the lines of d are accepted, and that these are the encrypted shares in them.

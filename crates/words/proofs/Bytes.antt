@@ -54,6 +54,10 @@ byte-low [] k h = omega arith
 byte-low (x ∷ b) zero h = h .0
 byte-low (x ∷ b) (suc k) h = byte-low b k (h .1)
 
+pub word-low : (b : List ℕ) (k : ℕ) → Below 256 b → wordAt b k < 2 ^ 32
+unfolding wordAt
+word-low b k h = omega (arith, byte-low b k h, byte-low b (k + 1) h, byte-low b (k + 2) h, byte-low b (k + 3) h)
+
 -- the number of a word's four bytes, behind the number a
 pub word-number : (a w : ℕ) → w < 2 ^ 32 → bigEndian a (wordBytes w) ≡ a * 4294967296 + w
 unfolding wordBytes

@@ -5,3 +5,4 @@ pub mod Checks
 pub mod Stages
 pub mod Alike
 pub mod Bytes
+pub mod Records

@@ -1,5 +1,5 @@
 -- Laws on lists: facts of every element, maps, runs of numbers, and lists that are filled up with 0.
-use mathlib.Core.Path.{_≡_, refl, sym, ap, _∙_}
+use mathlib.Core.Path.{_≡_, refl, sym, ap, _∙_, subst}
 use mathlib.Core.List.{List, [], _∷_, _++_}
 use Prim.Native.Nat.{ℕ, zero, suc, _+_, _-_, _≤_, _<_}
 use native.Mathlib.Nat.{le-of-suc-le-suc, not-suc-le-zero}
@@ -40,6 +40,11 @@ module _ {A : Type 0} where
   All-take P zero xs a = tt
   All-take P (suc k) [] a = tt
   All-take P (suc k) (x ∷ xs) a = (a .0, All-take P k xs (a .1))
+
+  pub All-drop : (P : A → Type 0) (k : ℕ) (xs : List A) → All P xs → All P (drop k xs)
+  All-drop P zero xs a = a
+  All-drop P (suc k) [] a = tt
+  All-drop P (suc k) (x ∷ xs) a = All-drop P k xs (a .1)
 
   pub Pairwise-to : {R Q : A → A → Type 0} (xs : List A) → ((x y : A) → R x y → Q x y) → Pairwise R xs → Pairwise Q xs
   Pairwise-to [] h p = tt
@@ -89,6 +94,10 @@ module _ {A B : Type 0} (f : A → B) where
   map-all P [] h = tt
   map-all P (x ∷ xs) h = (h .0, map-all P xs (h .1))
 
+  pub map-each : (P : B → Type 0) (xs : List A) → All P (map f xs) → All (λ x. P (f x)) xs
+  map-each P [] h = tt
+  map-each P (x ∷ xs) h = (h .0, map-each P xs (h .1))
+
   pub map-same : (g : A → B) (xs : List A) → All (λ x. f x ≡ g x) xs → map f xs ≡ map g xs
   map-same g [] h = refl
   map-same g (x ∷ xs) h = λ j. h .0 j ∷ map-same g xs (h .1) j
@@ -125,6 +134,16 @@ pub up-at : (i n k : ℕ) → k < n → getD (upFrom i n) k 0 ≡ i + k
 up-at i zero k h = absurd (not-suc-le-zero h)
 up-at i (suc n) zero h = omega arith
 up-at i (suc n) (suc k) h = up-at (suc i) n k (le-of-suc-le-suc h) ∙ omega arith
+
+-- a fact of each number of a run
+module _ (P : ℕ → Type 0) (i n : ℕ) where
+  pub up-each : All P (upFrom i n) → (j : ℕ) → i ≤ j → j < i + n → P j
+  up-each a j h l =
+      let e : getD (upFrom i n) (j - i) 0 ≡ j = up-at i n (j - i) (omega arith) ∙ omega arith in
+      subst P e (All-at P (upFrom i n) (j - i) 0 (omega (arith, up-length i n)) a)
+
+  pub each-up : ((j : ℕ) → i ≤ j → j < i + n → P j) → All P (upFrom i n)
+  each-up f = All-to (upFrom i n) (λ j s. f j (s .0) (s .1)) (up-within i n (i + n) (omega arith))
 
 -- by its last
 pub up-last : (i n : ℕ) → upFrom i (n + 1) ≡ upFrom i n ++ ((i + n) ∷ [])

@@ -2,7 +2,7 @@
 -- A stage is told by the number that its function answers, 0 where every check of it is met.
 use mathlib.Core.Path.{_≡_, refl, sym, ap, _∙_}
 use mathlib.Core.Bool.{Bool, true, false}
-use mathlib.Core.List.{List, [], _∷_, _++_}
+use mathlib.Core.List.{List, [], _∷_, _++_, append-assoc}
 use mathlib.Core.Logic.{inr}
 use Prim.Native.Nat.{ℕ}
 use native.Mathlib.Omega.{arith}
@@ -58,6 +58,14 @@ module _ (cs ds : List Check) (m : Met cs) where
 
   pub rest-choice : {A : Type 0} (a b : A) → ifMet ds a b ≡ ifMet (cs ++ ds) a b
   rest-choice {A} a b = sym (stages-choice A cs ds a b ∙ if-met (ifMet ds a b) b cs m)
+
+-- the same of the first of three stages
+module _ (cs ds es : List Check) (m : Met cs) where
+  pub behind-outcome : {A : Type 0} (a : A) → outcome (ds ++ es) a ≡ outcome ((cs ++ ds) ++ es) a
+  behind-outcome a = rest-outcome cs (ds ++ es) m a ∙ ap (λ (l : List Check). outcome l a) (sym (append-assoc cs ds es))
+
+  pub behind-choice : {A : Type 0} (a b : A) → ifMet (ds ++ es) a b ≡ ifMet ((cs ++ ds) ++ es) a b
+  behind-choice a b = rest-choice cs (ds ++ es) m a b ∙ ap (λ (l : List Check). ifMet l a b) (sym (append-assoc cs ds es))
 
 pub rest-first : (cs ds : List Check) (k : ℕ) → Met cs → FirstUnmet k ds → FirstUnmet k (cs ++ ds)
 rest-first [] ds k m u = u

@@ -1,7 +1,9 @@
 -- Words of 32 bits as four bytes, the most significant first, and records of eight words.
+use mathlib.Core.Bool.{Bool, _&&_}
 use mathlib.Core.List.{List, [], _∷_, _++_}
 use Prim.Native.Nat.{ℕ, _+_, _*_, _/_, _%_}
 use lib.ListN.{length, getD, take, drop}
+use lib.Dec.{eqb}
 use Rattle.words.specs.declared.Record.{Record}
 
 -- the word of four bytes
@@ -42,3 +44,18 @@ recordBytes r = wordsBytes (recordWords r)
 unfoldable pub recordIn : List ℕ → Record
 recordIn b =
     record { w0 = wordAt b 0; w1 = wordAt b 4; w2 = wordAt b 8; w3 = wordAt b 12; w4 = wordAt b 16; w5 = wordAt b 20; w6 = wordAt b 24; w7 = wordAt b 28 }
+
+-- how many records bytes hold
+abbrev pub recordsIn : List ℕ → ℕ
+recordsIn b = length b / 32
+
+-- the record number k, from 0, of bytes that hold records
+unfoldable pub recordAt : List ℕ → ℕ → Record
+recordAt b k = recordIn (take 32 (drop (32 * k) b))
+
+-- two records have the same words
+unfoldable pub agrees : Record → Record → Bool
+agrees r s =
+    eqb (r .w0) (s .w0)
+    && (eqb (r .w1) (s .w1) && (eqb (r .w2) (s .w2) && (eqb (r .w3) (s .w3)
+    && (eqb (r .w4) (s .w4) && (eqb (r .w5) (s .w5) && (eqb (r .w6) (s .w6) && eqb (r .w7) (s .w7)))))))

@@ -1,12 +1,13 @@
--- What is claimed of checks and of bytes. The proofs are in proofs/Checks.antt, proofs/Stages.antt and proofs/Bytes.antt.
+-- What is claimed of checks and of bytes. The proofs are in Checks, Stages, Bytes and Records of proofs/.
 use mathlib.Core.Path.{_≡_}
+use mathlib.Core.Bool.{true}
 use mathlib.Core.List.{List, _++_}
 use mathlib.Core.Logic.{_↔_}
 use Prim.Native.Nat.{ℕ, _^_, _<_}
 use lib.ListN.{length}
 use Rattle.words.specs.Lists.{Below}
 use Rattle.words.specs.Checks.{Check, value, refused, refusal, outcome, Met, FirstUnmet, Numbered, ifMet}
-use Rattle.words.specs.Bytes.{recordWords, recordBytes, recordIn}
+use Rattle.words.specs.Bytes.{recordWords, recordBytes, recordIn, agrees}
 use Rattle.words.specs.declared.Record.{Record}
 
 -- ---- checks in their order
@@ -54,3 +55,7 @@ ReadBack = (r : Record) → Below (2 ^ 32) (recordWords r) → recordIn (recordB
 -- 32 bytes that are read write back
 abbrev pub WriteBack : Type 0
 WriteBack = (b : List ℕ) → length b ≡ 32 → Below 256 b → recordBytes (recordIn b) ≡ b
+
+-- two records agree exactly if they are one
+abbrev pub AgreesExactly : Type 0
+AgreesExactly = (r s : Record) → (agrees r s ≡ true) ↔ (r ≡ s)

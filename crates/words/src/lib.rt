@@ -1,8 +1,8 @@
 // Words and records of bytes, as every figure of a board is posted.
 ghost use mathlib.Core.Path.{_≡_};
-ghost use Prim.Native.Nat.{_+_, _≤_};
+ghost use Prim.Native.Nat.{_+_, _*_, _≤_};
 ghost use lib.ListN.{length};
-ghost use Rattle.words.specs.Bytes.{word, wordAt, wordBytes, putAt, recordIn, recordBytes};
+ghost use Rattle.words.specs.Bytes.{word, wordAt, wordBytes, putAt, recordIn, recordAt, recordBytes, agrees};
 
 // Eight words: a record of a board, or a digest.
 pub struct Record {
@@ -59,6 +59,17 @@ pub fn read_record(b: &[u8]) -> Record
     }
 }
 
+// The record number k, from 0, of bytes that hold records.
+// Internal: callers ensure that its bytes are there.
+pub fn record_at(b: &[u8], k: usize) -> Record
+    requires { ⌜ 32 * k + 32 ≤ length (now b) ⌝ }
+    ensures { λ r. ⌜ r ≡ recordAt (now (b .entry)) k ⌝ }
+{
+    let from = 32 * k;
+    let to = from + 32;
+    read_record(&b[from..to])
+}
+
 // Writes a record over 32 bytes. Internal: the caller hands over just these bytes.
 pub fn write_record(b: &mut [u8], r: Record)
     requires { ⌜ length (now b) ≡ 32 ⌝ }
@@ -72,4 +83,32 @@ pub fn write_record(b: &mut [u8], r: Record)
     put_word(b, 20, r.w5);
     put_word(b, 24, r.w6);
     put_word(b, 28, r.w7);
+}
+
+// Whether all words are the same.
+pub fn agrees(r: Record, s: Record) -> bool
+    ensures { λ a. ⌜ a ≡ agrees r s ⌝ }
+{
+    if r.w0 != s.w0 {
+        return false;
+    }
+    if r.w1 != s.w1 {
+        return false;
+    }
+    if r.w2 != s.w2 {
+        return false;
+    }
+    if r.w3 != s.w3 {
+        return false;
+    }
+    if r.w4 != s.w4 {
+        return false;
+    }
+    if r.w5 != s.w5 {
+        return false;
+    }
+    if r.w6 != s.w6 {
+        return false;
+    }
+    r.w7 == s.w7
 }

@@ -2,10 +2,12 @@
 
 pub mod operations;
 
-use crate::draw::{BOARD_FILE, SET_FILE};
+use crate::draw::{BOARD_FILE, SET_FILE, TABLE_FILE};
+use crate::example::Round;
 use crate::numbers::Numbers;
 use crate::round::Figures;
 use crate::vectors::boards::posted::{any_members, is_opening, is_share, Posted};
+use crate::vectors::tables::groups;
 use crate::vectors::{digest, Vectors};
 
 /// What the draw value of a board comes from: openings, opened shares or added ones.
@@ -32,8 +34,27 @@ impl Source {
     }
 }
 
-/// The files of a round in which everyone has dealt, and all openings are posted, or all opened shares, or all added ones.
-pub fn round(figures: Figures, source: Source) -> [(&'static str, Vec<u8>); 2] {
+/// The table of groups of a name: none at all, or the most groups near 2^32. None where there is no such table.
+pub fn table_named(name: &str) -> Option<&'static [u8]> {
+    match name {
+        "none" => Some(&[]),
+        "large" => Some(groups::of(&groups::EIGHT_LARGE)),
+        _ => None,
+    }
+}
+
+/// The files of a round. It has a table where some groups are its own.
+pub fn files(figures: Figures, source: Source) -> Vec<(&'static str, Vec<u8>)> {
+    let Round { set, board } = round(figures, source);
+    let mut files = vec![(SET_FILE, set), (BOARD_FILE, board)];
+    if !figures.table.is_empty() {
+        files.push((TABLE_FILE, figures.table.to_vec()));
+    }
+    files
+}
+
+/// A round in which everyone has dealt, and all openings are posted, or all opened shares, or all added ones.
+pub fn round(figures: Figures, source: Source) -> Round {
     let mut numbers = Numbers::new(31);
     let members = any_members(figures, &mut numbers);
     let mut posted = Posted::everything(&members, &mut numbers);
@@ -46,7 +67,11 @@ pub fn round(figures: Figures, source: Source) -> [(&'static str, Vec<u8>); 2] {
             posted = posted.with_added(shares);
         }
     }
-    [(SET_FILE, posted.set.clone()), (BOARD_FILE, posted.board())]
+    let board = posted.board();
+    Round {
+        set: posted.set,
+        board,
+    }
 }
 
 /// The input of the program `vectors` that has it work out the digest of a message.
@@ -64,8 +89,12 @@ mod tests {
     /// The lines of the text of a round's files.
     fn lines(source: &str) -> Vec<String> {
         let source = Source::named(source).unwrap();
-        let [(_, set), (_, board)] = round(Figures::of(3, 5, 3), source);
-        let text = draw::text(&set, &board);
+        lines_of(Figures::of(3, 5, 3), source)
+    }
+
+    fn lines_of(figures: Figures, source: Source) -> Vec<String> {
+        let Round { set, board } = round(figures, source);
+        let text = draw::text(figures.table, &set, &board);
         text.lines().map(str::to_string).collect()
     }
 
@@ -84,5 +113,22 @@ mod tests {
         assert!(added.last().unwrap().starts_with("draw "));
         assert_eq!(added.last(), opened.last());
         assert!(Source::named("other").is_none());
+    }
+
+    /// A round with the table of large groups has its file, and is drawn in the last of them.
+    #[test]
+    fn rounds_with_a_table() {
+        let [none, large] = ["none", "large"].map(|name| table_named(name).unwrap());
+        assert!(none.is_empty() && large.len() == 256);
+        let figures = Figures::of(8, 5, 3).with_table(large);
+        let lines = lines_of(figures, Source::Recovered);
+        assert!(lines.last().unwrap().starts_with("draw "));
+        let names = |figures| {
+            let files = files(figures, Source::Opened);
+            files.iter().map(|file| file.0).collect::<Vec<&str>>()
+        };
+        assert_eq!(names(figures), [SET_FILE, BOARD_FILE, TABLE_FILE]);
+        assert_eq!(names(Figures::of(3, 2, 1)), [SET_FILE, BOARD_FILE]);
+        assert!(table_named("other").is_none());
     }
 }

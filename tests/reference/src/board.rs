@@ -3,12 +3,11 @@
 mod added;
 
 use crate::answer::{require, Answer};
-use crate::dealing::judge_dealing;
-use crate::group::H;
+use crate::dealing;
 use crate::record::{self, has_form, Record, ADDED, KEY, LINE, OPENING, SHARE, SIZE};
-use crate::round::{Figures, Round};
-use crate::share::judge_share;
-use crate::sharing::{at_zero, opening};
+use crate::round::{Lent, Round};
+use crate::share::judge_opened;
+use crate::sharing::{at_zero, check_opening};
 
 /// The most records that a board may have.
 const MOST: usize = 2048;
@@ -43,7 +42,6 @@ pub struct Judged {
 
 /// A board that nothing refuses before verdicts.
 struct Board<'a> {
-    figures: Figures,
     round: Round,
     keys: Vec<u32>,
     bytes: &'a [u8],
@@ -94,15 +92,16 @@ fn lines_of(bytes: &[u8], dealer: u32) -> &[u8] {
     &bytes[SIZE * start..SIZE * end]
 }
 
-/// The operation that gives the number for a dealer's lines: 1, 2; 8; then 3, 4, 17 and 5 as for the board.
-pub fn lines_check(figures: Figures, dealer: u32, bytes: &[u8]) -> Answer<()> {
+/// The operation that gives the number for a dealer's lines: the table's numbers; 1, 2; 8; then 3, 4, 17 and 5 as for the
+/// board.
+pub fn lines_check(figures: Lent, dealer: u32, bytes: &[u8]) -> Answer<()> {
     let round = figures.round()?;
     require(round.has_member(dealer), 8)?;
     check_form(&round, bytes)
 }
 
 /// The operation that gives a dealer's lines, none where the check refuses.
-pub fn dealer_lines(figures: Figures, dealer: u32, bytes: &[u8]) -> &[u8] {
+pub fn dealer_lines<'a>(figures: Lent, dealer: u32, bytes: &'a [u8]) -> &'a [u8] {
     match lines_check(figures, dealer, bytes) {
         Ok(()) => lines_of(bytes, dealer),
         Err(_) => &[],
@@ -119,12 +118,17 @@ fn keys(round: &Round, bytes: &[u8]) -> Answer<Vec<u32>> {
     Ok(keys)
 }
 
-/// The operation: 1, 2; 3; record by record 4, 17 and 5; 12; 6. Where these refuse nothing it answers what it judges.
-pub fn judge_board(figures: Figures, bytes: &[u8]) -> Answer<Judged> {
-    let round = figures.round()?;
+/// The operation: the table's numbers; 1, 2; 3; record by record 4, 17 and 5; 12; 6. Where these refuse nothing it answers
+/// what it judges.
+#[cfg(test)]
+pub fn judge_board(figures: Lent, bytes: &[u8]) -> Answer<Judged> {
+    judge(figures.round()?, bytes)
+}
+
+/// The same of a round whose figures are judged.
+pub fn judge(round: Round, bytes: &[u8]) -> Answer<Judged> {
     check_form(&round, bytes)?;
     let board = Board {
-        figures,
         keys: keys(&round, bytes)?,
         round,
         bytes,
@@ -149,7 +153,7 @@ impl Board<'_> {
         if lines.len() / SIZE != self.round.n as usize {
             return Verdict::Refused(12);
         }
-        match judge_dealing(self.figures, dealer, &self.keys, lines) {
+        match dealing::judge(&self.round, dealer, &self.keys, lines) {
             Err(number) => Verdict::Refused(number),
             Ok(()) => Verdict::Accepted(self.secret(dealer, lines)),
         }
@@ -158,7 +162,7 @@ impl Board<'_> {
     /// A right opening counts first, otherwise the t lowest members with accepted shares; fewer are stuck.
     fn secret(&self, dealer: u32, lines: &[u8]) -> Secret {
         if let Some(s) = self.right_opening(dealer, lines) {
-            return Secret::Opened(self.round.group.power(H, s));
+            return Secret::Opened(self.round.group.power(self.round.group.h, s));
         }
         let (members, shares) = self.lowest_shares(dealer, lines);
         if members.len() < self.round.t as usize {
@@ -175,7 +179,7 @@ impl Board<'_> {
             .chunks_exact(SIZE)
             .map(|line| record::read(line)[3])
             .collect();
-        opening(self.figures, &commitments, s).ok().map(|()| s)
+        check_opening(&self.round, &commitments, s).ok().map(|()| s)
     }
 
     /// The first t accepted shares of a dealing, which are those of the lowest members: these and the shares.
@@ -183,14 +187,7 @@ impl Board<'_> {
         self.lowest([SHARE, dealer], |member, posted| {
             let k = member as usize - 1;
             let encrypted = record::read(&lines[SIZE * k..])[4];
-            judge_share(
-                self.figures,
-                dealer,
-                member,
-                self.keys[k],
-                encrypted,
-                posted,
-            )
+            judge_opened(&self.round, dealer, member, self.keys[k], encrypted, posted)
         })
     }
 
@@ -242,7 +239,7 @@ mod tests {
     use super::*;
     use crate::modular::value_at;
     use crate::posting::Members;
-    use crate::round::FOUR;
+    use crate::round::{Figures, FOUR};
 
     const FIGURES: Figures = Figures { number: 3, ..FOUR };
 
@@ -284,7 +281,7 @@ mod tests {
 
     fn secret(dealer: usize) -> u32 {
         let group = FIGURES.round().unwrap().group;
-        group.power(H, SECRETS[dealer - 1])
+        group.power(group.h, SECRETS[dealer - 1])
     }
 
     #[test]

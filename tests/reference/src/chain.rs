@@ -2,9 +2,9 @@
 //! before it.
 
 use crate::answer::{require, Answer};
-use crate::group::group;
 use crate::record::{self, SIZE};
 use crate::sha256::sha256;
+use crate::table::{self, Table};
 
 /// The bytes of a link. The first 32 are a record of the round, the draw value, the group's number and five words 0.
 pub const LINK: usize = 64;
@@ -27,11 +27,11 @@ pub fn digest(before: &Digest, value: u32, round: u32) -> Digest {
 }
 
 /// Checks the link of a round. Returns its digest.
-fn judge_link(link: &[u8], round: u32, before: &Digest) -> Answer<Digest> {
+fn judge_link(table: &Table, link: &[u8], round: u32, before: &Digest) -> Answer<Digest> {
     let (figures, end) = link.split_at(SIZE);
     let [of_link, value, number, spare @ ..] = record::read(figures);
     require(spare == [0; 5], 4)?;
-    require(group(number)?.is_element(value), 6)?;
+    require(table.group(number)?.is_element(value), 6)?;
     require(of_link == round, 19)?;
     let expected = digest(before, value, round);
     require(end == expected, 18)?;
@@ -39,29 +39,36 @@ fn judge_link(link: &[u8], round: u32, before: &Digest) -> Answer<Digest> {
 }
 
 /// Checks a chain. Returns the last digest.
-fn judged(chain: &[u8]) -> Answer<Digest> {
+fn judged(table: &Table, chain: &[u8]) -> Answer<Digest> {
     let is_whole = chain.len().is_multiple_of(LINK);
     require(is_whole && chain.len() <= LINK * MOST, 3)?;
     let mut last = START;
     for (round, link) in (1..).zip(chain.chunks_exact(LINK)) {
-        last = judge_link(link, round, &last)?;
+        last = judge_link(table, link, round, &last)?;
     }
     Ok(last)
 }
 
-/// The operation: 3 not whole links or over 1,024; link by link 4 spare byte not 0, 1, 6 draw value no element, 19 round
-/// not the next, 18 digest not that of the link.
-pub fn judge_chain(chain: &[u8]) -> Answer<()> {
-    judged(chain).map(|_| ())
+/// The operation: the table's numbers; 3 not whole links or over 1,024; link by link 4 spare byte not 0, 1, 6 draw value no
+/// element, 19 round not the next, 18 digest not that of the link.
+pub fn judge_chain(table: &[u8], chain: &[u8]) -> Answer<()> {
+    judged(&table::judge(table)?, chain).map(|_| ())
 }
 
-/// The operation: the same of the chain; 3 chain of 1,024 links or buffer not of 64 bytes; 1; 6 draw value no element. The
-/// buffer then has the next link.
-pub fn extend_chain(chain: &[u8], number: u32, value: u32, out: &mut [u8]) -> Answer<()> {
-    let last = judged(chain)?;
+/// The operation: the same of the table and the chain; 3 chain of 1,024 links or buffer not of 64 bytes; 1; 6 draw value no
+/// element. The buffer then has the next link.
+pub fn extend_chain(
+    table: &[u8],
+    chain: &[u8],
+    number: u32,
+    value: u32,
+    out: &mut [u8],
+) -> Answer<()> {
+    let table = table::judge(table)?;
+    let last = judged(&table, chain)?;
     let count = chain.len() / LINK;
     require(count < MOST && out.len() == LINK, 3)?;
-    require(group(number)?.is_element(value), 6)?;
+    require(table.group(number)?.is_element(value), 6)?;
     let round = count as u32 + 1;
     let (figures, end) = out.split_at_mut(SIZE);
     record::write([round, value, number, 0, 0, 0, 0, 0], figures);
@@ -80,7 +87,7 @@ mod tests {
     /// The chain with the next link behind it.
     fn extended(mut chain: Vec<u8>, number: u32, value: u32) -> Vec<u8> {
         let mut link = [0xa5; LINK];
-        assert_eq!(extend_chain(&chain, number, value, &mut link), Ok(()));
+        assert_eq!(extend_chain(&[], &chain, number, value, &mut link), Ok(()));
         chain.extend(link);
         chain
     }
@@ -111,7 +118,7 @@ mod tests {
         let second = format!("000000020000000900000003{spare}{SECOND}");
         let chain = extended(extended(Vec::new(), 1, 4), 3, 9);
         assert_eq!(hex(&chain), first + &second);
-        assert_eq!(judge_chain(&chain), Ok(()));
+        assert_eq!(judge_chain(&[], &chain), Ok(()));
     }
 
     /// Each start is judged, since it is extended.
@@ -119,12 +126,12 @@ mod tests {
     fn the_starts_of_a_full_chain() {
         let squares = (1..=MOST as u32).map(|root| root * root);
         let mut chain = squares.fold(Vec::new(), |chain, value| extended(chain, 3, value));
-        assert_eq!(judge_chain(&chain), Ok(()));
+        assert_eq!(judge_chain(&[], &chain), Ok(()));
         let mut link = [7; LINK];
-        assert_eq!(extend_chain(&chain, 3, 4, &mut link), Err(3));
+        assert_eq!(extend_chain(&[], &chain, 3, 4, &mut link), Err(3));
         assert_eq!(link, [7; LINK]);
         chain.extend(link);
-        assert_eq!(judge_chain(&chain), Err(3));
+        assert_eq!(judge_chain(&[], &chain), Err(3));
     }
 
     #[test]
@@ -132,7 +139,7 @@ mod tests {
         let chain = of_group_1();
         for length in 0..=chain.len() {
             let expected = if length % 64 == 0 { Ok(()) } else { Err(3) };
-            assert_eq!(judge_chain(&chain[..length]), expected);
+            assert_eq!(judge_chain(&[], &chain[..length]), expected);
         }
     }
 
@@ -146,10 +153,10 @@ mod tests {
                 chain[LINK * link + byte] ^= 0x80;
             }
             for (number, byte) in faults {
-                assert_eq!(judge_chain(&chain), Err(number));
+                assert_eq!(judge_chain(&[], &chain), Err(number));
                 chain[LINK * link + byte] ^= 0x80;
             }
-            assert_eq!(judge_chain(&chain), Ok(()));
+            assert_eq!(judge_chain(&[], &chain), Ok(()));
         }
     }
 
@@ -157,16 +164,16 @@ mod tests {
     fn the_first_link_with_a_fault_counts() {
         let mut chain = of_group_1();
         chain[LINK + 31] = 1;
-        assert_eq!(judge_chain(&chain), Err(4));
+        assert_eq!(judge_chain(&[], &chain), Err(4));
         chain[63] ^= 1;
-        assert_eq!(judge_chain(&chain), Err(18));
+        assert_eq!(judge_chain(&[], &chain), Err(18));
     }
 
     #[test]
     fn the_first_fault_of_an_extension_counts() {
         let refused = |chain: &[u8], number, value, size| {
             let mut out = vec![7; size];
-            let answer = extend_chain(chain, number, value, &mut out);
+            let answer = extend_chain(&[], chain, number, value, &mut out);
             assert_eq!(out, vec![7; size]);
             answer
         };

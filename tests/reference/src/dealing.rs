@@ -2,16 +2,15 @@
 
 use crate::answer::{require, Answer};
 use crate::equality::{announced, response};
-use crate::group::G;
 use crate::message::{check_polynomial, dealing_challenge};
 use crate::modular::value_at;
 use crate::record::{self, has_form, Record, LINE, SIZE};
-use crate::round::{Figures, Round};
+use crate::round::{Lent, Round};
 use crate::sharing::degree_product;
 
-/// The operation: 1, 2; 8 dealer; 3 other than n keys, t coefficients, n nonces or 32n bytes; 6 a key; 7.
+/// The operation: the table's numbers; 1, 2; 8 dealer; 3 other than n keys, t coefficients, n nonces or 32n bytes; 6 a key; 7.
 pub fn write_dealing(
-    figures: Figures,
+    figures: Lent,
     dealer: u32,
     keys: &[u32],
     coefficients: &[u32],
@@ -43,7 +42,8 @@ pub fn deal(
 ) {
     let powers = |exponents: &[u32]| -> Vec<[u32; 2]> {
         let pairs = keys.iter().zip(exponents);
-        let powers = pairs.map(|(&y, &e)| [G, y].map(|base| round.group.power(base, e)));
+        let powers =
+            pairs.map(|(&y, &e)| [round.group.g, y].map(|base| round.group.power(base, e)));
         powers.collect()
     };
     let dealt = powers(exponents);
@@ -57,9 +57,13 @@ pub fn deal(
     }
 }
 
-/// The operation: 1, 2; 8; 3 other than n keys or 32n bytes; 6 a key; 4; 17; 6 v or Y; 7 r or c; 9; 10.
-pub fn judge_dealing(figures: Figures, dealer: u32, keys: &[u32], bytes: &[u8]) -> Answer<()> {
-    let round = figures.round()?;
+/// The operation: the table's numbers; 1, 2; 8; 3 other than n keys or 32n bytes; 6 a key; 4; 17; 6 v or Y; 7 r or c; 9; 10.
+pub fn judge_dealing(figures: Lent, dealer: u32, keys: &[u32], bytes: &[u8]) -> Answer<()> {
+    judge(&figures.round()?, dealer, keys, bytes)
+}
+
+/// The same of a round whose figures are judged.
+pub fn judge(round: &Round, dealer: u32, keys: &[u32], bytes: &[u8]) -> Answer<()> {
     let group = &round.group;
     let n = round.n as usize;
     require(round.has_member(dealer), 8)?;
@@ -78,28 +82,28 @@ pub fn judge_dealing(figures: Figures, dealer: u32, keys: &[u32], bytes: &[u8]) 
     }
     let commitments: Vec<u32> = lines.iter().map(|line| line[3]).collect();
     let dealt: Vec<[u32; 2]> = lines.iter().map(|line| [line[3], line[4]]).collect();
-    let coefficients = check_polynomial(&round, dealer, &dealt);
-    require(degree_product(&round, &commitments, &coefficients) == 1, 9)?;
+    let coefficients = check_polynomial(round, dealer, &dealt);
+    require(degree_product(round, &commitments, &coefficients) == 1, 9)?;
     let mut announcements = Vec::with_capacity(n);
     for (&y, &[_, _, _, v, encrypted, r, c, _]) in keys.iter().zip(&lines) {
-        announcements.push([(G, v), (y, encrypted)].map(|(b, x)| announced(group, b, x, c, r)));
+        announcements
+            .push([(group.g, v), (y, encrypted)].map(|(b, x)| announced(group, b, x, c, r)));
     }
-    let challenge = dealing_challenge(&round, dealer, &dealt, &announcements);
+    let challenge = dealing_challenge(round, dealer, &dealt, &announcements);
     require(lines.iter().all(|line| line[6] == challenge), 10)
 }
 
 #[cfg(test)]
 mod tests {
     use super::*;
-    use crate::group::H;
-    use crate::round::FOUR;
+    use crate::round::{Figures, FOUR};
 
     const FIGURES: Figures = Figures { number: 3, ..FOUR };
     const ROUNDS: [u32; 4] = [0, 1, 0x0102_0304, u32::MAX];
 
     fn keys() -> [u32; 4] {
         let group = FIGURES.round().unwrap().group;
-        [5, 1, 2_147_483_542, 70_000].map(|x| group.power(H, x))
+        [5, 1, 2_147_483_542, 70_000].map(|x| group.power(group.h, x))
     }
 
     fn written(round: u32) -> [u8; 128] {

@@ -1,13 +1,15 @@
-//! What `draw` prints, from the bytes of `round.set` and `board.bin`.
+//! What `draw` prints, from the bytes of `groups.tab`, `round.set` and `board.bin`.
 
 use crate::answer::{require, Answer};
-use crate::board::{judge_board, Judged, Secret, Verdict};
+use crate::board::{self, Judged, Secret, Verdict};
 use crate::record::{self, Record, SIZE};
-use crate::round::Figures;
+use crate::round::{Figures, Lent};
+use crate::table;
 use std::fs::File;
 use std::io::Read;
 use std::path::Path;
 
+pub const TABLE_FILE: &str = "groups.tab";
 pub const SET_FILE: &str = "round.set";
 pub const BOARD_FILE: &str = "board.bin";
 
@@ -15,13 +17,14 @@ pub const BOARD_FILE: &str = "board.bin";
 pub const SET: u32 = 9;
 
 /// The record that a round's set is.
-pub fn set_record(figures: Figures) -> Record {
-    let Figures {
+pub fn set_record(figures: Lent) -> Record {
+    let Lent {
         number,
         n,
         t,
         round,
         first,
+        ..
     } = figures;
     [SET, number, n, t, round, first, 0, 0]
 }
@@ -35,11 +38,16 @@ fn read_set(bytes: &[u8]) -> Answer<Figures> {
     Ok(figures.with_round(round).with_first(first))
 }
 
-/// The text: the set is judged first, then the board.
-pub fn text(set: &[u8], board: &[u8]) -> String {
-    let judged = read_set(set)
-        .and_then(|figures| judge_board(figures, board).map(|judged| report(figures, &judged)));
-    judged.unwrap_or_else(refused)
+/// The text: the table is judged first, then the set, then the board.
+pub fn text(table: &[u8], set: &[u8], board: &[u8]) -> String {
+    reported(table, set, board).unwrap_or_else(refused)
+}
+
+fn reported(table: &[u8], set: &[u8], board: &[u8]) -> Answer<String> {
+    let table = table::judge(table)?;
+    let figures = read_set(set)?;
+    let judged = board::judge(figures.round_of(&table)?, board)?;
+    Ok(report(figures, &judged))
 }
 
 fn refused(number: u32) -> String {
@@ -81,10 +89,11 @@ fn read_file(path: &Path) -> Vec<u8> {
     bytes
 }
 
-/// The text of the two files in a folder.
+/// The text of the three files in a folder.
 pub fn text_of(folder: &Path) -> String {
-    let [set, board] = [SET_FILE, BOARD_FILE].map(|name| read_file(&folder.join(name)));
-    text(&set, &board)
+    let names = [TABLE_FILE, SET_FILE, BOARD_FILE];
+    let [table, set, board] = names.map(|name| read_file(&folder.join(name)));
+    text(&table, &set, &board)
 }
 
 #[cfg(test)]
@@ -118,16 +127,33 @@ mod tests {
     #[test]
     fn the_set_is_judged_first() {
         let Round { mut set, board } = of_keys_alone();
-        assert_eq!(text(&set, &board[1..]), "refused 3\n");
-        assert_eq!(text(&set, &[]), "refused 12\n");
+        assert_eq!(text(&[], &set, &board[1..]), "refused 3\n");
+        assert_eq!(text(&[], &set, &[]), "refused 12\n");
         // Word 4, the round.
         set[19] = 1;
-        assert_eq!(text(&set, &board), "refused 17\n");
-        assert_eq!(text(&set, &board[1..]), "refused 3\n");
-        assert_eq!(text(&set, &[]), "refused 12\n");
+        assert_eq!(text(&[], &set, &board), "refused 17\n");
+        assert_eq!(text(&[], &set, &board[1..]), "refused 3\n");
+        assert_eq!(text(&[], &set, &[]), "refused 12\n");
         set[31] = 1;
-        assert_eq!(text(&set, &board[1..]), "refused 4\n");
-        assert_eq!(text(&set[1..], &board), "refused 3\n");
-        assert_eq!(text(&[], &[]), "refused 3\n");
+        assert_eq!(text(&[], &set, &board[1..]), "refused 4\n");
+        assert_eq!(text(&[], &set[1..], &board), "refused 3\n");
+        assert_eq!(text(&[], &[], &[]), "refused 3\n");
+    }
+
+    #[test]
+    fn the_table_is_judged_before_the_set() {
+        let Round { set, board } = of_keys_alone();
+        let table = table::bytes(&table::BUILT_IN);
+        assert_eq!(text(&table, &set, &board), text(&[], &set, &board));
+        for (word, to, number) in [(7, 1, 4), (3, 1, 20), (5, 0, 21)] {
+            let mut wrong = table.clone();
+            wrong[SIZE + 4 * word..][..4].copy_from_slice(&u32::to_be_bytes(to));
+            let expected = format!("refused {number}\n");
+            for set in [&set[..], &set[1..], &[]] {
+                assert_eq!(text(&wrong, set, &board), expected);
+                assert_eq!(text(&wrong[1..], set, &board), "refused 3\n");
+            }
+        }
+        assert_eq!(text(&table, &set[1..], &board), "refused 3\n");
     }
 }

@@ -1,6 +1,6 @@
-//! The cases that were there before shares could be added, and which of them are answered otherwise now. Their answers of then
-//! are in tests/earlier; those of the cases that were there before records had a round's number, or before rounds had a first
-//! round under the new rule, are from before that.
+//! The cases that were there before there were tables of groups, and which of them are answered otherwise now. Their answers of
+//! then are in tests/earlier; those of the cases that were there before records had a round's number, before rounds had a first
+//! round under the new rule, or before shares could be added, are from before that.
 
 use crate::record::{self, Record, ADDED, KEY, LINE, OPENING, SIZE};
 use crate::vectors::cases::{read, Case};

@@ -24,9 +24,9 @@ pub fn response(group: &Group, nonce: u32, challenge: u32, exponent: u32) -> u32
     difference(nonce, product(challenge, exponent, group.q), group.q)
 }
 
-/// The operation: 1; 6; 7; 10 an equation fails.
-pub fn equality(number: u32, proof: &Equality) -> Answer<()> {
-    let group = group(number)?;
+/// The operation: the table's numbers; 1; 6; 7; 10 an equation fails.
+pub fn equality(table: &[u8], number: u32, proof: &Equality) -> Answer<()> {
+    let group = group(table, number)?;
     require(group.all_elements(&proof.bases), 6)?;
     require(group.all_elements(&proof.elements), 6)?;
     require(group.all_elements(&proof.announcements), 6)?;
@@ -57,16 +57,16 @@ mod tests {
             challenge: 5,
             response: 7,
         };
-        assert_eq!(equality(1, &proof), Ok(()));
-        assert_eq!(response(&group(1).unwrap(), 3, 5, 8), 7);
+        assert_eq!(equality(&[], 1, &proof), Ok(()));
+        assert_eq!(response(&group(&[], 1).unwrap(), 3, 5, 8), 7);
         proof.response = 8;
-        assert_eq!(equality(1, &proof), Err(10));
+        assert_eq!(equality(&[], 1, &proof), Err(10));
     }
 
     /// With a challenge other than 0 one response at most fits the announcements, and with the exponents equal one does.
     #[test]
     fn one_response_fits_equal_exponents() {
-        let group = group(1).unwrap();
+        let group = group(&[], 1).unwrap();
         for exponents in [[7, 7], [7, 8]] {
             let bases = [4, 9];
             let elements = [0, 1].map(|k| group.power(bases[k], exponents[k]));
@@ -81,7 +81,7 @@ mod tests {
                         challenge,
                         response,
                     };
-                    equality(1, &proof).is_ok()
+                    equality(&[], 1, &proof).is_ok()
                 };
                 let fitting: Vec<u32> = (0..11).filter(fits).collect();
                 if exponents[0] == exponents[1] {

@@ -1,7 +1,6 @@
 //! The example rounds: the one beside `draw`, in which everything happens, and the scope paper's, in which nothing does.
 
 use crate::draw::{set_record, text, BOARD_FILE, SET_FILE};
-use crate::group::G;
 use crate::modular::value_at;
 use crate::posting::Members;
 use crate::record::{self, Record, KEY, OPENING, SHARE};
@@ -44,7 +43,7 @@ fn records() -> Vec<Record> {
     records.sort();
     *figure(&mut records, [OPENING, 4, 0]) += 1;
     let share = figure(&mut records, [SHARE, 4, 1]);
-    *share = members.round.group.product(*share, G);
+    *share = members.round.group.product(*share, members.round.group.g);
     records
 }
 
@@ -65,7 +64,7 @@ pub fn round() -> Round {
 /// The files of the example round, and what `draw` prints of it.
 pub fn files() -> [(&'static str, Vec<u8>); 3] {
     let Round { set, board } = round();
-    let text = text(&set, &board).into_bytes();
+    let text = text(&[], &set, &board).into_bytes();
     [(SET_FILE, set), (BOARD_FILE, board), ("stdout", text)]
 }
 
@@ -83,19 +82,18 @@ pub fn of_keys_alone() -> Round {
 mod tests {
     use super::*;
     use crate::board::{judge_board, Secret, Verdict};
-    use crate::group::H;
     use crate::record::{LINE, SIZE};
     use crate::share::judge_share;
 
     fn text_of(round: &Round) -> String {
-        text(&round.set, &round.board)
+        text(&[], &round.set, &round.board)
     }
 
     /// The text of the example round after a change of its records.
     fn changed(change: impl Fn(&mut Vec<Record>)) -> String {
         let mut records = records();
         change(&mut records);
-        text(&round().set, &record::bytes(records))
+        text(&[], &round().set, &record::bytes(records))
     }
 
     #[test]
@@ -119,7 +117,9 @@ mod tests {
     fn the_last_bytes_count() {
         let Round { set, board } = round();
         assert_eq!(board.len(), 1152);
-        assert!(text(&set, &board[..1024]).ends_with("dealer 4 stuck\naccepted 2\nrefused 13\n"));
+        assert!(
+            text(&[], &set, &board[..1024]).ends_with("dealer 4 stuck\naccepted 2\nrefused 13\n")
+        );
     }
 
     #[test]
@@ -135,7 +135,7 @@ mod tests {
     fn verdicts_of_each_class() {
         let judged = judge_board(FOUR, &round().board).unwrap();
         let group = FOUR.round().unwrap().group;
-        let [first, last] = [3, 5].map(|s| group.power(H, s));
+        let [first, last] = [3, 5].map(|s| group.power(group.h, s));
         let expected = [
             Verdict::Accepted(Secret::Opened(first)),
             Verdict::Refused(9),

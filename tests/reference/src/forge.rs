@@ -3,7 +3,6 @@
 
 use crate::dealing::judge_dealing;
 use crate::draw::{set_record, SET_FILE};
-use crate::group::G;
 use crate::modular::value_at;
 use crate::posting::Members;
 use crate::record::{self, Record};
@@ -83,7 +82,7 @@ fn uncarried_lines(members: &Members) -> Vec<Record> {
 /// A share of a member who claims 4 times his S: he tries challenges and responses until one pair is accepted.
 fn forged(members: &Members, honest: &Record, is_accepted: impl Fn(&[u8]) -> bool) -> Record {
     let [kind, dealer, member, opened, ..] = *honest;
-    let claimed = members.round.group.product(opened, G);
+    let claimed = members.round.group.product(opened, members.round.group.g);
     for c in 0..11 {
         for r in 0..11 {
             let share = [kind, dealer, member, claimed, c, r, 0, FOUR.round];
@@ -175,8 +174,11 @@ pub fn files() -> [(&'static str, Vec<u8>); 8] {
 mod tests {
     use super::*;
     use crate::board::{judge_board, Secret, Verdict};
-    use crate::group::H;
     use crate::record::{ADDED, LINE, SHARE};
+
+    /// Those of group 1.
+    const G: u32 = 4;
+    const H: u32 = 9;
 
     fn carried() -> [Vec<u8>; 3] {
         let [_, (_, opened), (_, silent), (_, forged), ..] = files();

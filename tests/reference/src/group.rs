@@ -2,26 +2,20 @@
 
 use crate::answer::{require, Answer};
 use crate::modular;
+use crate::table;
 
-/// The generators, the same in every group.
-pub const G: u32 = 4;
-pub const H: u32 = 9;
-
-/// A group: the powers of 4 modulo the prime p = 2q + 1, where q is prime.
+/// A group: the powers of g modulo the prime p, where g to the odd prime q is 1. h is another of them.
+#[derive(Clone, Copy, Debug, PartialEq)]
 pub struct Group {
     pub p: u32,
     pub q: u32,
+    pub g: u32,
+    pub h: u32,
 }
 
-/// The group of a number: 1 group not 1 to 3.
-pub fn group(number: u32) -> Answer<Group> {
-    let q = match number {
-        1 => 11,
-        2 => 1019,
-        3 => 2_147_483_543,
-        _ => return Err(1),
-    };
-    Ok(Group { p: 2 * q + 1, q })
+/// The group of a number in a table that is lent: 3, 4, 20 and 21 of the table; 1 no group of that number.
+pub fn group(table: &[u8], number: u32) -> Answer<Group> {
+    table::judge(table)?.group(number)
 }
 
 impl Group {
@@ -55,9 +49,9 @@ impl Group {
     }
 }
 
-/// The operation: 1; 6 base no element; 7 exponent at least q.
-pub fn power(number: u32, base: u32, exponent: u32) -> Answer<u32> {
-    let group = group(number)?;
+/// The operation: the table's numbers; 1; 6 base no element; 7 exponent at least q.
+pub fn power(table: &[u8], number: u32, base: u32, exponent: u32) -> Answer<u32> {
+    let group = group(table, number)?;
     require(group.is_element(base), 6)?;
     require(exponent < group.q, 7)?;
     Ok(group.power(base, exponent))
@@ -71,7 +65,7 @@ mod tests {
     #[test]
     fn both_moduli_are_prime() {
         for number in 1..=3 {
-            let Group { p, q } = group(number).unwrap();
+            let Group { p, q, .. } = group(&[], number).unwrap();
             assert!(is_prime(p.into()) && is_prime(q.into()));
         }
     }
@@ -79,10 +73,10 @@ mod tests {
     #[test]
     fn elements_are_the_powers_of_each_generator() {
         for number in 1..=2 {
-            let group = group(number).unwrap();
+            let group = group(&[], number).unwrap();
             let mut elements: Vec<u32> = (0..=group.p + 4).collect();
             elements.retain(|&v| group.is_element(v));
-            for generator in [G, H] {
+            for generator in [group.g, group.h] {
                 let powers = (0..group.q).map(|exponent| group.power(generator, exponent));
                 let mut powers: Vec<u32> = powers.collect();
                 powers.sort();
@@ -93,15 +87,15 @@ mod tests {
 
     #[test]
     fn figures_by_hand() {
-        assert_eq!(group(1).unwrap().power(22, 11), 22);
-        assert_eq!(power(1, 22, 2), Err(6));
-        assert_eq!(power(1, 4, 10), Ok(6));
-        assert_eq!(power(1, 4, 11), Err(7));
+        assert_eq!(group(&[], 1).unwrap().power(22, 11), 22);
+        assert_eq!(power(&[], 1, 22, 2), Err(6));
+        assert_eq!(power(&[], 1, 4, 10), Ok(6));
+        assert_eq!(power(&[], 1, 4, 11), Err(7));
     }
 
     #[test]
     fn the_first_fault_counts() {
-        assert_eq!(power(4, 0, u32::MAX), Err(1));
-        assert_eq!(power(1, 22, 11), Err(6));
+        assert_eq!(power(&[], 4, 0, u32::MAX), Err(1));
+        assert_eq!(power(&[], 1, 22, 11), Err(6));
     }
 }

@@ -27,6 +27,7 @@ mod rounds;
 mod sha256;
 mod share;
 mod sharing;
+mod table;
 mod vectors;
 
 use round::Figures;
@@ -41,8 +42,8 @@ type Done = Result<(), Box<dyn Error>>;
 
 const USAGE: &str =
     "usage: reference vectors DIR | forge DIR | example DIR | draw DIR | largest | digest FILE
-       reference rounds DIR | board GROUP N T ROUND FIRST opened|recovered|added DIR | case FILE
-       reference repeat OPERATION COUNT DIR | replay FILE | earlier LENGTH FILE";
+       reference rounds DIR | board GROUP N T ROUND FIRST opened|recovered|added none|large DIR
+       reference case FILE | repeat OPERATION COUNT DIR | replay FILE | earlier LENGTH FILE";
 
 /// The primes p and q of group 3: the largest below 2^32.
 fn largest() -> (u64, u64) {
@@ -51,7 +52,7 @@ fn largest() -> (u64, u64) {
 
 /// Writes the program's input and its expected output to `stdin` and `stdout` in a folder.
 fn write_vectors(folder: &Path) -> Done {
-    if !group::group(3).is_ok_and(|group| (group.p.into(), group.q.into()) == largest()) {
+    if !group::group(&[], 3).is_ok_and(|group| (group.p.into(), group.q.into()) == largest()) {
         return Err("group 3 is not the largest below 2^32".into());
     }
     let vectors = vectors::all();
@@ -71,19 +72,16 @@ fn write_files(folder: &str, files: &[(&str, Vec<u8>)]) -> Done {
 /// The figures of a round in the order of its set.
 fn figures(words: [&str; 5]) -> Result<Figures, ParseIntError> {
     let [number, n, t, round, first] = words;
-    Ok(Figures {
-        number: number.parse()?,
-        n: n.parse()?,
-        t: t.parse()?,
-        round: round.parse()?,
-        first: first.parse()?,
-    })
+    let figures = Figures::of(number.parse()?, n.parse()?, t.parse()?);
+    let figures = figures.with_round(round.parse()?);
+    Ok(figures.with_first(first.parse()?))
 }
 
-/// Writes the files of a round whose draw value comes from a source to a folder.
-fn write_board(figures: Figures, source: &str, folder: &str) -> Done {
+/// Writes the files of a round with a table, whose draw value comes from a source, to a folder.
+fn write_board(figures: Figures, source: &str, table: &str, folder: &str) -> Done {
     let source = bench::Source::named(source).ok_or("there is no such source")?;
-    write_files(folder, &bench::round(figures, source))
+    let table = bench::table_named(table).ok_or("there is no such table")?;
+    write_files(folder, &bench::files(figures.with_table(table), source))
 }
 
 fn run(words: &[String]) -> Done {
@@ -97,8 +95,9 @@ fn run(words: &[String]) -> Done {
         ["example", folder] => write_files(folder, &example::files())?,
         ["draw", folder] => print!("{}", draw::text_of(Path::new(folder))),
         ["rounds", folder] => println!("{}", rounds::write(Path::new(folder))?),
-        ["board", number, n, t, round, first, source, folder] => {
-            write_board(figures([number, n, t, round, first])?, source, folder)?;
+        ["board", number, n, t, round, first, source, table, folder] => {
+            let figures = figures([number, n, t, round, first])?;
+            write_board(figures, source, table, folder)?;
         }
         ["case", file] => io::stdout().write_all(&bench::case(&fs::read(file)?))?,
         ["repeat", operation, count, folder] => {

@@ -1,11 +1,9 @@
 //! What members whose secret keys are known post on a board.
 
 use crate::dealing::deal;
-use crate::group::H;
 use crate::record::{self, Record, KEY, OPENING, SIZE};
 use crate::round::{Figures, Round};
-use crate::share::added::write_added;
-use crate::share::write_share;
+use crate::share::{added, write, Kind};
 
 /// The members of a round with their keys.
 pub struct Members {
@@ -18,7 +16,9 @@ pub struct Members {
 impl Members {
     pub fn new(figures: Figures, secret_keys: &[u32]) -> Members {
         let round = figures.round().expect("a proper round");
-        let keys = secret_keys.iter().map(|&x| round.group.power(H, x));
+        let keys = secret_keys
+            .iter()
+            .map(|&x| round.group.power(round.group.h, x));
         Members {
             figures,
             keys: keys.collect(),
@@ -50,26 +50,19 @@ impl Members {
     /// The opened share of the member of a line.
     pub fn share(&self, line: &Record, nonce: u32) -> Record {
         let [_, dealer, member, _, encrypted, ..] = *line;
-        let x = self.secret_keys[member as usize - 1];
-        let mut bytes = [0; SIZE];
-        let written = write_share(
-            self.figures,
-            dealer,
-            member,
-            encrypted,
-            x,
-            nonce,
-            &mut bytes,
-        );
-        written.expect("proper figures");
-        record::read(&bytes)
+        self.written(&Kind::opened(dealer), member, encrypted, nonce)
     }
 
     /// The added share of a member, from the product of his Y.
     pub fn added(&self, member: u32, encrypted: u32, nonce: u32) -> Record {
+        self.written(&added::KIND, member, encrypted, nonce)
+    }
+
+    /// In the round as it is judged, so that its table is not judged again for each share.
+    fn written(&self, kind: &Kind, member: u32, encrypted: u32, nonce: u32) -> Record {
         let x = self.secret_keys[member as usize - 1];
         let mut bytes = [0; SIZE];
-        let written = write_added(self.figures, member, encrypted, x, nonce, &mut bytes);
+        let written = write(&self.round, kind, member, encrypted, x, nonce, &mut bytes);
         written.expect("proper figures");
         record::read(&bytes)
     }

@@ -10,7 +10,7 @@ use crate::equality::{equality, Equality};
 use crate::group::power;
 use crate::plots::pick_plots;
 use crate::record::{self, SIZE};
-use crate::round::Figures;
+use crate::round::Lent;
 use crate::sha256::{digest, sha256};
 use crate::share::added::{judge_added, write_added};
 use crate::share::{judge_share, write_share};
@@ -23,8 +23,10 @@ use std::io::Write;
 
 type Read<T> = Result<T, Box<dyn Error>>;
 
-/// A case: the number of the round and the first round before it, its operation's number, its arguments and its payload.
+/// A case: the table, the number of the round and the first round before it, its operation's number, its arguments and its
+/// payload.
 struct Case<'a> {
+    table: &'a [u8],
     round: u32,
     first: u32,
     operation: u32,
@@ -34,13 +36,18 @@ struct Case<'a> {
 
 /// Prints what each case is answered.
 pub fn replay(mut input: &[u8], out: &mut impl Write) -> Done {
-    let (mut base, mut round, mut first): (&[u8], u32, u32) = (&[], 0, 0);
+    let (mut base, mut table): (&[u8], &[u8]) = (&[], &[]);
+    let (mut round, mut first) = (0, 0);
     while !input.is_empty() {
-        let case = next(&mut input, round, first)?;
+        let mut case = next(&mut input, table, round, first)?;
         match case.operation {
             14 => base = case.payload,
             16 => round = case.arguments[0],
             19 => first = case.arguments[0],
+            22 => {
+                table = case.payload;
+                case.table = table;
+            }
             _ => {}
         }
         run(&case, base, out)?;
@@ -49,9 +56,10 @@ pub fn replay(mut input: &[u8], out: &mut impl Write) -> Done {
 }
 
 /// The case at the front, which is taken off.
-fn next<'a>(input: &mut &'a [u8], round: u32, first: u32) -> Read<Case<'a>> {
+fn next<'a>(input: &mut &'a [u8], table: &'a [u8], round: u32, first: u32) -> Read<Case<'a>> {
     let [operation, a, b, c, d, e, f, length] = record::read(part(input, SIZE)?);
     Ok(Case {
+        table,
         round,
         first,
         operation,
@@ -103,14 +111,15 @@ fn run(case: &Case, base: &[u8], out: &mut impl Write) -> Done {
         19 => print_length(out, b"first ", case.arguments[0] as usize),
         20 => run_write_added(case, out),
         21 => run_judge_added(case, out),
+        22 => print_length(out, b"table ", case.table.len()),
         _ => Err("no case".into()),
     }
 }
 
 /// The figures of an operation whose first arguments are group, n and t.
-fn figures(case: &Case) -> Figures {
+fn figures<'a>(case: &Case<'a>) -> Lent<'a> {
     let [number, n, t, ..] = case.arguments;
-    let figures = Figures::of(number, n, t);
+    let figures = Lent::of(number, n, t).with_table(case.table);
     figures.with_round(case.round).with_first(case.first)
 }
 
@@ -200,7 +209,7 @@ fn run_digest(case: &Case, out: &mut impl Write) -> Done {
 
 fn run_power(case: &Case, out: &mut impl Write) -> Done {
     let [number, base, exponent, ..] = case.arguments;
-    print_value(out, b"power ", power(number, base, exponent))
+    print_value(out, b"power ", power(case.table, number, base, exponent))
 }
 
 fn run_degree(case: &Case, out: &mut impl Write) -> Done {
@@ -236,7 +245,8 @@ fn run_equality(case: &Case, out: &mut impl Write) -> Done {
         challenge,
         response,
     };
-    print_check(out, b"equality ", equality(case.arguments[0], &proof))
+    let answer = equality(case.table, case.arguments[0], &proof);
+    print_check(out, b"equality ", answer)
 }
 
 fn run_write_dealing(case: &Case, out: &mut impl Write) -> Done {
@@ -339,7 +349,7 @@ fn run_lines(case: &Case, base: &[u8], out: &mut impl Write) -> Done {
 fn run_text(case: &Case, base: &[u8], out: &mut impl Write) -> Done {
     let mut rest = case.payload;
     let set = part(&mut rest, case.arguments[5] as usize)?;
-    let text = draw::text(set, &changed(case, base, rest)?);
+    let text = draw::text(case.table, set, &changed(case, base, rest)?);
     print_length(out, b"text ", text.len())?;
     Ok(out.write_all(text.as_bytes())?)
 }
@@ -347,20 +357,20 @@ fn run_text(case: &Case, base: &[u8], out: &mut impl Write) -> Done {
 fn run_pick_plots(case: &Case, out: &mut impl Write) -> Done {
     let [number, value, radius, total, count, room] = case.arguments;
     let mut list = lent(room);
-    let answer = pick_plots(number, value, radius, total, count, &mut list);
+    let answer = pick_plots(case.table, number, value, radius, total, count, &mut list);
     print_written(out, b"pick_plots ", answer, &bytes(&list))
 }
 
 fn run_judge_chain(case: &Case, base: &[u8], out: &mut impl Write) -> Done {
     let chain = changed(case, base, case.payload)?;
-    print_check(out, b"judge_chain ", judge_chain(&chain))
+    print_check(out, b"judge_chain ", judge_chain(case.table, &chain))
 }
 
 fn run_extend_chain(case: &Case, base: &[u8], out: &mut impl Write) -> Done {
     let [number, value, size, ..] = case.arguments;
     let chain = changed(case, base, case.payload)?;
     let mut link = chains::lent(size as usize);
-    let answer = extend_chain(&chain, number, value, &mut link);
+    let answer = extend_chain(case.table, &chain, number, value, &mut link);
     print_written(out, b"extend_chain ", answer, &link)
 }
 
@@ -379,7 +389,7 @@ mod tests {
 
     #[test]
     fn what_is_no_case() {
-        let unknown = record::bytes([[22, 0, 0, 0, 0, 0, 0, 0]]);
+        let unknown = record::bytes([[23, 0, 0, 0, 0, 0, 0, 0]]);
         let cut = record::bytes([[1, 0, 0, 0, 0, 0, 0, 1]]);
         let without_payload = record::bytes([[6, 1, 0, 0, 0, 0, 0, 0]]);
         let without_base = record::bytes([[17, 0, 0, 0, 0, 64, 0, 0]]);

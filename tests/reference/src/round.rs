@@ -1,20 +1,25 @@
 //! Rounds: a group, the number of members, the threshold, the round's number and that of the first round under the new rule.
 
 use crate::answer::{require, Answer};
-use crate::group::{group, Group};
+use crate::group::Group;
+use crate::table::{self, Table};
 
 /// The most members that a round may have.
 const MOST: u32 = 31;
 
-/// The figures of a round as they are lent.
+/// The figures of a round as they are lent, with the table of groups.
 #[derive(Clone, Copy)]
-pub struct Figures {
+pub struct Lent<'a> {
+    pub table: &'a [u8],
     pub number: u32,
     pub n: u32,
     pub t: u32,
     pub round: u32,
     pub first: u32,
 }
+
+/// Figures whose table stays to the program's end, as cases have them.
+pub type Figures = Lent<'static>;
 
 /// The round of the figures by hand.
 pub const FOUR: Figures = Figures::of(1, 4, 2);
@@ -30,11 +35,12 @@ pub struct Round {
     pub first: u32,
 }
 
-impl Figures {
-    /// The figures of round 0, with no round under the new rule.
-    pub const fn of(number: u32, n: u32, t: u32) -> Figures {
+impl<'a> Lent<'a> {
+    /// The figures of round 0 of a built-in group, with no round under the new rule.
+    pub const fn of(number: u32, n: u32, t: u32) -> Lent<'a> {
         let (round, first) = (0, 0);
-        Figures {
+        Lent {
+            table: &[],
             number,
             n,
             t,
@@ -43,27 +49,38 @@ impl Figures {
         }
     }
 
+    /// The same figures with another table.
+    pub fn with_table(self, table: &'a [u8]) -> Lent<'a> {
+        Lent { table, ..self }
+    }
+
     /// The same figures in another round.
-    pub fn with_round(self, round: u32) -> Figures {
-        Figures { round, ..self }
+    pub fn with_round(self, round: u32) -> Lent<'a> {
+        Lent { round, ..self }
     }
 
     /// The same figures with another first round under the new rule.
-    pub fn with_first(self, first: u32) -> Figures {
-        Figures { first, ..self }
+    pub fn with_first(self, first: u32) -> Lent<'a> {
+        Lent { first, ..self }
     }
 
-    /// The checks by which every operation begins: 1 no group of that number; 2 n or t outside its range. Any number is
-    /// a round's, and the first round's.
+    /// The checks by which every operation begins: the table's numbers; 1 no group of that number; 2 n or t outside its range.
+    /// Any number is a round's, and the first round's.
     pub fn round(self) -> Answer<Round> {
-        let Figures {
+        self.round_of(&table::judge(self.table)?)
+    }
+
+    /// The same with the table judged before.
+    pub fn round_of(self, table: &Table) -> Answer<Round> {
+        let Lent {
             number,
             n,
             t,
             round,
             first,
+            ..
         } = self;
-        let group = group(number)?;
+        let group = table.group(number)?;
         require((1..=MOST).contains(&n) && n < group.q, 2)?;
         require((1..=n).contains(&t), 2)?;
         Ok(Round {

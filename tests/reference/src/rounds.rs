@@ -8,8 +8,9 @@ mod numbered;
 mod places;
 mod played;
 mod sets;
+mod tables;
 
-use crate::draw::{text, BOARD_FILE, SET_FILE};
+use crate::draw::{text, BOARD_FILE, SET_FILE, TABLE_FILE};
 use crate::example::Round;
 use std::path::Path;
 use std::{fs, io};
@@ -42,19 +43,21 @@ impl Place {
 
 struct Case {
     name: String,
+    table: Place,
     set: Place,
     board: Place,
 }
 
 impl Case {
     fn text(&self) -> String {
-        text(self.set.bytes(), self.board.bytes())
+        text(self.table.bytes(), self.set.bytes(), self.board.bytes())
     }
 
     /// Writes the files to a folder of the case's name, and the text beside it.
     fn write(&self, folder: &Path) -> io::Result<()> {
         let own = folder.join(&self.name);
         fs::create_dir(&own)?;
+        self.table.write(&own.join(TABLE_FILE))?;
         self.set.write(&own.join(SET_FILE))?;
         self.board.write(&own.join(BOARD_FILE))?;
         fs::write(folder.join(format!("{}.text", self.name)), self.text())
@@ -65,10 +68,19 @@ impl Case {
 struct Cases(Vec<Case>);
 
 impl Cases {
-    /// Adds a case whose text ends in a line that starts so.
+    /// Adds a case without a table whose text ends in a line that starts so.
     fn add(&mut self, name: &str, set: Place, board: Place, end: &str) {
-        let name = name.to_string();
-        let case = Case { name, set, board };
+        self.with_table(name, Place::Nothing, set, board, end);
+    }
+
+    /// The same with a table.
+    fn with_table(&mut self, name: &str, table: Place, set: Place, board: Place, end: &str) {
+        let case = Case {
+            name: name.to_string(),
+            table,
+            set,
+            board,
+        };
         let text = case.text();
         let last = text.lines().last().expect("a text has lines");
         let (name, starts) = (&case.name, last.starts_with(end));
@@ -105,6 +117,7 @@ fn all() -> Vec<Case> {
     firsts::add(&mut cases);
     crossed::add(&mut cases);
     added::add(&mut cases);
+    tables::add(&mut cases);
     cases.0
 }
 
@@ -120,6 +133,7 @@ pub fn write(folder: &Path) -> io::Result<usize> {
 #[cfg(test)]
 mod tests {
     use super::*;
+    use crate::table;
     use std::collections::BTreeSet;
 
     #[test]
@@ -129,13 +143,13 @@ mod tests {
         assert_eq!(names.len(), cases.len());
     }
 
-    /// The last lines of the cases have every number but 7 to 11, which only dealers are refused by, and 15 and 16, which are
-    /// of plots.
+    /// The last lines of the cases have every number but 7 to 11, which only dealers are refused by, 15 and 16, which are of
+    /// plots, and 18 and 19, which are of chains.
     #[test]
     fn every_ending() {
         let texts: Vec<String> = all().iter().map(Case::text).collect();
         let ends = |end: &str| texts.iter().any(|text| text.ends_with(end));
-        for number in [1, 2, 3, 4, 5, 6, 12, 13, 14, 17] {
+        for number in [1, 2, 3, 4, 5, 6, 12, 13, 14, 17, 20, 21] {
             assert!(ends(&format!("refused {number}\n")), "{number}");
         }
         assert!(ends("draw 13\n"));
@@ -149,5 +163,22 @@ mod tests {
         assert!(texts.iter().filter(is_one).count() >= 10);
         let is_13 = |text: &String| text.contains(" stuck\n") && text.ends_with("\nrefused 13\n");
         assert!(texts.iter().any(is_13));
+    }
+
+    /// The file of a table is written where there is one, and only the table's number is printed where it is refused.
+    #[test]
+    fn rounds_with_a_table() {
+        let cases = all();
+        let with_table = cases.iter().filter(|case| !case.table.bytes().is_empty());
+        let mut refused = 0;
+        for case in with_table {
+            if let Err(number) = table::judge(case.table.bytes()) {
+                assert_eq!(case.text(), format!("refused {number}\n"));
+                refused += 1;
+            }
+        }
+        assert!(refused > 50);
+        let is_missing = |case: &&Case| matches!(case.table, Place::Nothing);
+        assert!(cases.iter().filter(is_missing).count() > 100);
     }
 }

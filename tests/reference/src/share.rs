@@ -5,21 +5,20 @@ pub mod added;
 
 use crate::answer::{require, Answer};
 use crate::equality::{announced, response};
-use crate::group::H;
 use crate::message::{self, share_challenge};
 use crate::modular::inverse;
 use crate::record::{self, has_form, SHARE, SIZE};
-use crate::round::{Figures, Round};
+use crate::round::{Lent, Round};
 
 /// What tells the kinds of shares apart: the first byte of what is hashed, the record's kind and its dealer.
-struct Kind {
+pub struct Kind {
     tag: u8,
     number: u32,
     dealer: u32,
 }
 
 impl Kind {
-    fn opened(dealer: u32) -> Kind {
+    pub fn opened(dealer: u32) -> Kind {
         Kind {
             tag: message::OPENED,
             number: SHARE,
@@ -29,7 +28,7 @@ impl Kind {
 }
 
 /// Writes a share of a member from Y, the secret key and the nonce: 3 other than 32 bytes; 6; 7.
-fn write(
+pub fn write(
     round: &Round,
     kind: &Kind,
     member: u32,
@@ -47,9 +46,9 @@ fn write(
     require(out.len() == SIZE, 3)?;
     require(group.is_element(encrypted), 6)?;
     require((1..group.q).contains(&secret_key) && nonce < group.q, 7)?;
-    let key = group.power(H, secret_key);
+    let key = group.power(group.h, secret_key);
     let opened = group.power(encrypted, inverse(secret_key, group.q));
-    let [a1, a2] = [H, opened].map(|base| group.power(base, nonce));
+    let [a1, a2] = [group.h, opened].map(|base| group.power(base, nonce));
     let words = [key, encrypted, opened, a1, a2];
     let c = share_challenge(tag, round, dealer, member, &words);
     let r = response(group, nonce, c, secret_key);
@@ -81,7 +80,7 @@ fn judge(
     let [_, _, _, opened, c, r, ..] = record;
     require(group.is_element(opened), 6)?;
     require(group.all_exponents(&[c, r]), 7)?;
-    let a1 = announced(group, H, key, c, r);
+    let a1 = announced(group, group.h, key, c, r);
     let a2 = announced(group, opened, encrypted, c, r);
     let words = [key, encrypted, opened, a1, a2];
     let recomputed = share_challenge(tag, round, dealer, member, &words);
@@ -89,9 +88,10 @@ fn judge(
     Ok(opened)
 }
 
-/// The operation, from Y, the secret key and the nonce: 1, 2; 8 dealer or member; 3 other than 32 bytes; 6; 7.
+/// The operation, from Y, the secret key and the nonce: the table's numbers; 1, 2; 8 dealer or member; 3 other than 32 bytes;
+/// 6; 7.
 pub fn write_share(
-    figures: Figures,
+    figures: Lent,
     dealer: u32,
     member: u32,
     encrypted: u32,
@@ -105,9 +105,10 @@ pub fn write_share(
     write(&round, &kind, member, encrypted, secret_key, nonce, out)
 }
 
-/// The operation, with the member's key and the Y of his line; it answers S. 1, 2; 8; 3; 6 y or Y; 4; 17; 6 S; 7; 10.
+/// The operation, with the member's key and the Y of his line; it answers S. The table's numbers; 1, 2; 8; 3; 6 y or Y; 4;
+/// 17; 6 S; 7; 10.
 pub fn judge_share(
-    figures: Figures,
+    figures: Lent,
     dealer: u32,
     member: u32,
     key: u32,
@@ -115,21 +116,33 @@ pub fn judge_share(
     bytes: &[u8],
 ) -> Answer<u32> {
     let round = figures.round()?;
+    judge_opened(&round, dealer, member, key, encrypted, bytes)
+}
+
+/// The same of a round whose figures are judged.
+pub fn judge_opened(
+    round: &Round,
+    dealer: u32,
+    member: u32,
+    key: u32,
+    encrypted: u32,
+    bytes: &[u8],
+) -> Answer<u32> {
     require(round.has_member(dealer) && round.has_member(member), 8)?;
-    judge(&round, &Kind::opened(dealer), member, key, encrypted, bytes)
+    judge(round, &Kind::opened(dealer), member, key, encrypted, bytes)
 }
 
 #[cfg(test)]
 mod tests {
     use super::*;
-    use crate::round::FOUR;
+    use crate::round::{Figures, FOUR};
 
     const FIGURES: Figures = Figures { number: 3, ..FOUR };
     const SECRET_KEY: u32 = 1_000_000_007;
     const ROUNDS: [u32; 4] = [0, 1, 0x0102_0304, u32::MAX];
 
     fn key() -> u32 {
-        FIGURES.round().unwrap().group.power(H, SECRET_KEY)
+        FIGURES.round().unwrap().group.power(9, SECRET_KEY)
     }
 
     /// Y of the exponent 77.
@@ -152,7 +165,7 @@ mod tests {
 
     #[test]
     fn a_written_share_is_accepted_and_true() {
-        let opened = FIGURES.round().unwrap().group.power(H, 77);
+        let opened = FIGURES.round().unwrap().group.power(9, 77);
         for round in ROUNDS {
             let record = written(round);
             assert_eq!(record[28..], round.to_be_bytes());

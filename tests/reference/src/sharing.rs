@@ -1,9 +1,9 @@
 //! The degree check, the opening and recovery.
 
 use crate::answer::{require, Answer};
-use crate::group::{Group, G};
+use crate::group::Group;
 use crate::modular::{difference, inverse, product, value_at};
-use crate::round::{Figures, Round};
+use crate::round::{Lent, Round};
 
 /// A base to the value of a polynomial at each member.
 pub fn powers_at(round: &Round, base: u32, coefficients: &[u32]) -> Vec<u32> {
@@ -41,8 +41,8 @@ pub fn degree_product(round: &Round, commitments: &[u32], coefficients: &[u32]) 
     product
 }
 
-/// The operation: 1, 2; 3 other than n commitments or n - t coefficients; 6; 7; 9 product not 1.
-pub fn degree_check(figures: Figures, commitments: &[u32], coefficients: &[u32]) -> Answer<()> {
+/// The operation: the table's numbers; 1, 2; 3 other than n commitments or n - t coefficients; 6; 7; 9 product not 1.
+pub fn degree_check(figures: Lent, commitments: &[u32], coefficients: &[u32]) -> Answer<()> {
     let round = figures.round()?;
     require(commitments.len() == round.n as usize, 3)?;
     require(coefficients.len() == (round.n - round.t) as usize, 3)?;
@@ -77,8 +77,9 @@ fn any_twice(members: &[u32]) -> bool {
     (1..members.len()).any(|k| members[k..].contains(&members[k - 1]))
 }
 
-/// The operation: 1, 2; 3 lists of unequal length; 8 fewer than t, a member outside 1 to n, or one twice; 6.
-pub fn recovery(figures: Figures, members: &[u32], shares: &[u32]) -> Answer<u32> {
+/// The operation: the table's numbers; 1, 2; 3 lists of unequal length; 8 fewer than t, a member outside 1 to n, or one twice;
+/// 6.
+pub fn recovery(figures: Lent, members: &[u32], shares: &[u32]) -> Answer<u32> {
     let round = figures.round()?;
     require(members.len() == shares.len(), 3)?;
     require(members.len() >= round.t as usize, 8)?;
@@ -88,22 +89,32 @@ pub fn recovery(figures: Figures, members: &[u32], shares: &[u32]) -> Answer<u32
     Ok(at_zero(&round.group, members, shares))
 }
 
-/// The operation: 1, 2; 3 other than n commitments; 6; 7; 11 not right.
-pub fn opening(figures: Figures, commitments: &[u32], s: u32) -> Answer<()> {
-    let round = figures.round()?;
+/// The operation: the table's numbers; 1, 2; 3 other than n commitments; 6; 7; 11 not right.
+pub fn opening(figures: Lent, commitments: &[u32], s: u32) -> Answer<()> {
+    check_opening(&figures.round()?, commitments, s)
+}
+
+/// The same of a round whose figures are judged.
+pub fn check_opening(round: &Round, commitments: &[u32], s: u32) -> Answer<()> {
     let group = &round.group;
     require(commitments.len() == round.n as usize, 3)?;
     require(group.all_elements(commitments), 6)?;
     require(s < group.q, 7)?;
     let first: Vec<u32> = (1..=round.t).collect();
-    require(group.power(G, s) == at_zero(group, &first, commitments), 11)
+    require(
+        group.power(group.g, s) == at_zero(group, &first, commitments),
+        11,
+    )
 }
 
 #[cfg(test)]
 mod tests {
     use super::*;
-    use crate::group::H;
-    use crate::round::FOUR;
+    use crate::round::{Figures, FOUR};
+
+    /// Those of the built-in groups.
+    const G: u32 = 4;
+    const H: u32 = 9;
 
     const CARRIED: [u32; 4] = [9, 16, 8, 4];
 

@@ -8,7 +8,9 @@
 //!
 //! Boards and chains are given as changes of a base, which a case of its own loads. The number of the round too has a
 //! case of its own: argument 1 is the round of all cases behind it that take a round's figures. Before the first it is 0.
-//! So has the number of the first round under the new rule. The text of `draw` has both from the set.
+//! So has the number of the first round under the new rule. The text of `draw` has both from the set. The table of groups is
+//! the payload of a case of its own: all cases behind it that meet a group's number are lent these bytes. Before the first
+//! there are none.
 
 mod added;
 pub mod boards;
@@ -30,10 +32,12 @@ mod rounds;
 mod rules;
 pub mod sample;
 pub mod splices;
+pub mod tables;
 mod write_dealing;
 mod write_share;
 
 use crate::answer::Answer;
+use crate::group::{group, Group};
 use crate::round::Figures;
 
 /// An operation as the cases name it.
@@ -57,11 +61,17 @@ const FIRST: Operation = Operation {
     name: "first",
 };
 
+const TABLE: Operation = Operation {
+    number: 22,
+    name: "table",
+};
+
 #[derive(Default)]
 pub struct Vectors {
     pub stdin: Vec<u8>,
     pub stdout: String,
     base: Vec<u8>,
+    table: &'static [u8],
     round: u32,
     first: u32,
 }
@@ -73,16 +83,37 @@ impl Vectors {
         self.base = base.to_vec();
     }
 
+    /// Lends a table to the cases behind: a case with its bytes, where the last one was another.
+    fn lend(&mut self, table: &'static [u8]) {
+        if table != self.table {
+            self.line(&TABLE, &[], table, &table.len().to_string());
+            self.table = table;
+        }
+    }
+
+    /// The group of a number in the table that cases are lent.
+    fn group(&self, number: u32) -> Group {
+        group(self.table, number).expect("a group of the table")
+    }
+
     /// Group, n and t, the first arguments of a case that takes a round's figures. Where the last round was another, a
-    /// case with its number comes before, and so for the first round under the new rule.
+    /// case with its number comes before, and so for the first round under the new rule and for the table.
     fn round(&mut self, figures: Figures) -> [u32; 3] {
         let Figures {
+            table,
             number,
             n,
             t,
             round,
             first,
         } = figures;
+        self.lend(table);
+        self.in_round(round, first);
+        [number, n, t]
+    }
+
+    /// Gives the cases behind a round and a first round under the new rule: a case with each number that was another.
+    fn in_round(&mut self, round: u32, first: u32) {
         if round != self.round {
             self.line(&ROUND, &[round], &[], &round.to_string());
             self.round = round;
@@ -91,7 +122,6 @@ impl Vectors {
             self.line(&FIRST, &[first], &[], &first.to_string());
             self.first = first;
         }
-        [number, n, t]
     }
 
     /// Adds a case with what the operation answers to it. Returns the number that it is refused by.
@@ -160,7 +190,7 @@ pub fn bytes(words: &[u32]) -> Vec<u8> {
 }
 
 /// Every case, operation by operation; behind these the cases of rounds other than 0, those on chains, those of rounds with a
-/// first round under the new rule, and those of added shares.
+/// first round under the new rule, those of added shares, and those with a table of groups.
 pub fn all() -> Vectors {
     let mut vectors = Vectors::default();
     digest::add(&mut vectors);
@@ -179,6 +209,7 @@ pub fn all() -> Vectors {
     chains::add(&mut vectors);
     rules::add(&mut vectors);
     added::add(&mut vectors);
+    tables::add(&mut vectors);
     vectors
 }
 

@@ -1,38 +1,33 @@
--- `chain_refusal` meets its contract: the length decides, and then the links one by one.
-use mathlib.Core.Path.{_≡_}
-use mathlib.Core.Bool.{true, false}
-use native.Mathlib.Omega.{arith}
+-- `chain_refusal` meets its contract: where the table is refused its number is handed on, and else the chain decides.
+use mathlib.Core.Path.{_∙_}
 use borrow.Author.Needs.{needs}
-use borrow.Author.Tests.{eq-eqb, ne-eqb, le-leb, lt-leb}
-use lib.Dec.{leb}
-use Rattle.chain.specs.Chain.{linksIn, chainChecks}
+use Rattle.words.proofs.Stages.{stage-number, rest-number}
+use Rattle.group.specs.Table.{groupsOf, tableChecks}
+use Rattle.group.proofs.Turns.{table-met}
+use Rattle.chain.specs.Chain.{linkedChecks, chainChecks}
 use Rattle.chain.proofs.chain_refusal.Statement.{statement}
 use Rattle.chain.proofs.chain_refusal.Tie as tie
 
+table-refusal-requires : tie.Need-table-refusal-requires
+table-refusal-requires c κs = search needs
+
 returns : tie.Need-returns
 unfolding chainChecks
-returns c = simp (ne-eqb _ 0 (c .if1 .taken))
+returns c =
+    let t = c .before in
+    let a = t .before .before .before .args in
+    stage-number (tableChecks (a .table .now)) (t .table-refusal .ensures) (linkedChecks (groupsOf (a .table .now)) (a .b .now)) (c .if1 .taken)
 
-links-requires : tie.Need-links-requires
-links-requires c κs = search needs
+linked-refusal-requires : tie.Need-linked-refusal-requires
+linked-refusal-requires c κs = search needs
 
 returns-2 : tie.Need-returns-2
 unfolding chainChecks
 returns-2 c =
-    let m = linksIn (c .before .before .before .before .args .b .now) in
-    let r : leb m 1024 ≡ false = lt-leb m 1024 (omega (arith, c .before .links .ensures)) in
-    simp (eq-eqb _ 0 (c .before .before .if1 .left), r)
-
-links-refusal-requires : tie.Need-links-refusal-requires
-links-refusal-requires c κs = search needs
-
-returns-3 : tie.Need-returns-3
-unfolding chainChecks
-returns-3 c =
-    let m = linksIn (c .before .before .before .before .before .args .b .now) in
-    let r : leb m 1024 ≡ true = le-leb m 1024 (omega (arith, c .before .before .links .ensures)) in
-    simp (eq-eqb _ 0 (c .before .before .before .if1 .left), r) (c .links-refusal .ensures)
+    let t = c .before .before in
+    let a = t .before .before .before .args in
+    let m = table-met (a .table .now) (t .table-refusal .ensures) (c .before .if1 .left) in
+    c .linked-refusal .ensures ∙ rest-number (tableChecks (a .table .now)) (linkedChecks (groupsOf (a .table .now)) (a .b .now)) m
 
 pub chain-refusal-spec : {M : Type 1} → statement M
-chain-refusal-spec =
-    tie.close (tie.spec returns links-requires returns-2 links-refusal-requires returns-3)
+chain-refusal-spec = tie.close (tie.spec table-refusal-requires returns linked-refusal-requires returns-2)

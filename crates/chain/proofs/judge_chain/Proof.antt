@@ -13,14 +13,15 @@ chain-refusal-requires c κs = search needs
 
 returns : tie.Need-returns
 unfolding chainOutcome
-returns c = let b = c .before .before .before .args .b .now in last-refused (chainChecks b) (c .before .chain-refusal .ensures) (c .if1 .taken) tt
+returns c = let a = c .before .before .before .before .args in last-refused (chainChecks (a .table .now) (a .b .now)) (c .before .chain-refusal .ensures) (c .if1 .taken) tt
 
 returns-2 : tie.Need-returns-2
 unfolding chainOutcome
 returns-2 c =
-    let b = c .before .before .before .args .b .now in
-    let m = none-exactly (chainChecks b) (chain-numbered b) .0 (sym (c .before .chain-refusal .ensures) ∙ c .if1 .left) in
-    sym (value-exactly Unit (chainChecks b) tt .1 m)
+    let a = c .before .before .before .before .args in
+    let cs = chainChecks (a .table .now) (a .b .now) in
+    let m = none-exactly cs (chain-numbered (a .table .now) (a .b .now)) .0 (sym (c .before .chain-refusal .ensures) ∙ c .if1 .left) in
+    sym (value-exactly Unit cs tt .1 m)
 
 pub judge-chain-spec : {M : Type 1} → statement M
 judge-chain-spec = tie.close (tie.spec chain-refusal-requires returns returns-2)

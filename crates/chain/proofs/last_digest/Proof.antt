@@ -3,7 +3,7 @@ use mathlib.Core.Path.{_≡_, sym, ap, _∙_}
 use Prim.Native.Nat.{suc, _+_, _-_, _*_}
 use native.Mathlib.Omega.{arith}
 use borrow.Author.Needs.{needs}
-use Rattle.records.specs.Layout.{recordAt}
+use Rattle.words.specs.Bytes.{recordAt}
 use Rattle.chain.specs.Chain.{linksIn, digestAfter}
 use Rattle.chain.proofs.last_digest.Statement.{statement}
 use Rattle.chain.proofs.last_digest.Tie as tie

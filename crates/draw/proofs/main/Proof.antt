@@ -22,6 +22,18 @@ slice-aggregate-read-file-4 c = search needs
 read-file-requires-2 : tie.Need-read-file-requires-2
 read-file-requires-2 c κs = search needs
 
+slice-aggregate-read-file-5 : tie.Need-slice-aggregate-read-file-5
+slice-aggregate-read-file-5 c = search needs
+
+slice-aggregate-read-file-6 : tie.Need-slice-aggregate-read-file-6
+slice-aggregate-read-file-6 c = search needs
+
+read-file-requires-3 : tie.Need-read-file-requires-3
+read-file-requires-3 c κs = search needs
+
+array-share-prefix-table : tie.Need-array-share-prefix-table
+array-share-prefix-table c = search needs
+
 array-share-prefix-set : tie.Need-array-share-prefix-set
 array-share-prefix-set c = search needs
 
@@ -34,6 +46,9 @@ array-share-prefix-board c = search needs
 slice-aggregate-draw-text-2 : tie.Need-slice-aggregate-draw-text-2
 slice-aggregate-draw-text-2 c = search needs
 
+slice-aggregate-draw-text-3 : tie.Need-slice-aggregate-draw-text-3
+slice-aggregate-draw-text-3 c = search needs
+
 draw-text-requires : tie.Need-draw-text-requires
 draw-text-requires c κs = tt
 
@@ -44,7 +59,7 @@ part-write-all-start : tie.Need-part-write-all-start
 part-write-all-start c = search needs
 
 part-write-all-end : tie.Need-part-write-all-end
-part-write-all-end c = text-within _ _ _ _ _ _ (c .before .draw-text .ensures)
+part-write-all-end c = text-within _ _ _ _ _ _ _ (c .before .draw-text .ensures)
 
 write-all-requires : tie.Need-write-all-requires
 write-all-requires c κs = search needs
@@ -62,10 +77,15 @@ main-spec =
     slice-aggregate-read-file-3
     slice-aggregate-read-file-4
     read-file-requires-2
-    array-share-prefix-set
+    slice-aggregate-read-file-5
+    slice-aggregate-read-file-6
+    read-file-requires-3
+    array-share-prefix-table
     slice-aggregate-draw-text
-    array-share-prefix-board
+    array-share-prefix-set
     slice-aggregate-draw-text-2
+    array-share-prefix-board
+    slice-aggregate-draw-text-3
     draw-text-requires
     sub-write-all
     part-write-all-start

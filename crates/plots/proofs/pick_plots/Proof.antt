@@ -23,7 +23,7 @@ unfolding pickOutcome lentPlots
 returns c =
     let k = c .before in
     let e = k .before .before .group-of .ensures in
-    (in-group-refused _ _ _ e (k .refused .given .1), in-group-kept _ _ _ e (k .refused .given .1) _)
+    (in-group-refused _ _ _ _ e (k .refused .given .1), in-group-kept _ _ _ _ e (k .refused .given .1) _)
 
 same-length : tie.Need-same-length
 same-length c = search needs
@@ -34,7 +34,7 @@ returns-2 c =
     let w = c .before .before in
     let g = w .before .before .before in
     let e = g .before .before .group-of .ensures in
-    (w .pick-plots-in .ensures .0 ∙ in-group-value _ _ _ e (g .gr .given .1), w .pick-plots-in .ensures .1 ∙ in-group-lent _ _ _ e (g .gr .given .1) _)
+    (w .pick-plots-in .ensures .0 ∙ in-group-value _ _ _ _ e (g .gr .given .1), w .pick-plots-in .ensures .1 ∙ in-group-lent _ _ _ _ e (g .gr .given .1) _)
 
 pub pick-plots-spec : {M : Type 1} → statement M
 pick-plots-spec =

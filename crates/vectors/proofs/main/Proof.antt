@@ -4,10 +4,10 @@ use Rattle.vectors.proofs.main.Statement.{statement}
 use Rattle.vectors.proofs.main.Tie as tie
 
 abbrev Inv-loop : tie.InvT-loop
-Inv-loop space₀ base₀ built₀ round₀ first₀ turns₀ space base built round first turns = Unit {0}
+Inv-loop space₀ base₀ built₀ table₀ size₀ round₀ first₀ turns₀ space base built table size round first turns = Unit {0}
 
 abbrev μ-loop : tie.MeasureT-loop
-μ-loop space₀ base₀ built₀ round₀ first₀ turns₀ space base built round first turns = turns
+μ-loop space₀ base₀ built₀ table₀ size₀ round₀ first₀ turns₀ space base built table size round first turns = turns
 
 loop-holds : tie.Need-loop-holds Inv-loop μ-loop
 loop-holds c = tt

@@ -5,15 +5,16 @@ mod hashed;
 
 use crate::chain::{LINK, MOST};
 use crate::equality::response;
-use crate::group::{G, H};
 use crate::numbers::Numbers;
 use crate::record;
 use crate::round::{Figures, Round};
 use crate::sharing::powers_at;
+use crate::table::H;
 use crate::vectors::boards::posted::{any_members, is_line, Posted};
 use crate::vectors::bytes;
 use crate::vectors::chains::links::Chain;
 use crate::vectors::sample::{list, proper};
+use crate::vectors::tables::groups;
 
 const LARGEST: Figures = Figures::of(3, 31, 16);
 
@@ -26,12 +27,13 @@ const MEMBER: u32 = 31;
 
 const MOST_PLOTS: u32 = 4096;
 
-/// A case: its header up to the payload's length, and the payload; and the header's word that is another in a refused
-/// case, with what it is there.
+/// A case: its header up to the payload's length, and the payload; the header's word that is another in a refused case, with
+/// what it is there; and the table that accepted ones are lent. Refused ones are lent none, since a table is judged first.
 struct Case {
     header: Vec<u32>,
     payload: Vec<u8>,
     fault: (usize, u32),
+    table: Vec<u8>,
 }
 
 impl Case {
@@ -47,6 +49,7 @@ impl Case {
             header: [&[operation, LARGEST.number], arguments].concat(),
             payload,
             fault: (1, 0),
+            table: Vec::new(),
         }
     }
 
@@ -67,8 +70,12 @@ pub fn files(name: &str, count: usize) -> Option<[(&'static str, Vec<u8>); 2]> {
     let (load, case) = case(name)?;
     let [accepted, refused] = case.bytes();
     let repeated = |case: Vec<u8>| [&load[..], &case.repeat(count)].concat();
+    let mut lent = Vec::new();
+    if !case.table.is_empty() {
+        lent = payload_case(22, &case.table);
+    }
     Some([
-        ("accepted", repeated(accepted)),
+        ("accepted", [lent, repeated(accepted)].concat()),
         ("refused", repeated(refused)),
     ])
 }
@@ -83,6 +90,8 @@ fn case(name: &str) -> Option<(Vec<u8>, Case)> {
     let numbers = &mut Numbers::new(41);
     let case = match name {
         "power" => power(&round),
+        "power-table" => power_in(&groups::EIGHT_LARGE),
+        "power-table-one" => power_in(&groups::EIGHT_LARGE[7..]),
         "degree" => degree(&round, numbers),
         "opening" => opening(&round, numbers),
         "recovery-t" => recovery(&round, round.t, numbers),
@@ -109,12 +118,23 @@ fn numbered(figures: Figures) -> Vec<u8> {
 /// The largest exponent, which gives the inverse. This is printed with one digit, as the number of the refusal is.
 fn power(round: &Round) -> Case {
     let largest = round.group.q - 1;
-    let base = round.group.power(H, largest);
+    let base = round.group.power(round.group.h, largest);
     Case::in_group(2, &[base, largest], Vec::new())
 }
 
+/// The same in the last group of a table.
+fn power_in(moduli: &[(u32, u32)]) -> Case {
+    let table = groups::of(moduli);
+    let number = moduli.len() as u32;
+    let figures = Figures { number, ..LARGEST };
+    let mut case = power(&proper(figures.with_table(table)));
+    case.header[1] = number;
+    case.table = table.to_vec();
+    case
+}
+
 fn degree(round: &Round, numbers: &mut Numbers) -> Case {
-    let commitments = powers_at(round, G, &list(numbers, round.t, round.group.q));
+    let commitments = powers_at(round, round.group.g, &list(numbers, round.t, round.group.q));
     let coefficients = list(numbers, round.n - round.t, round.group.q);
     let payload = bytes(&[commitments, coefficients].concat());
     Case::of(3, &[round.n, round.n - round.t], payload)
@@ -122,13 +142,13 @@ fn degree(round: &Round, numbers: &mut Numbers) -> Case {
 
 fn opening(round: &Round, numbers: &mut Numbers) -> Case {
     let polynomial = list(numbers, round.t, round.group.q);
-    let commitments = powers_at(round, G, &polynomial);
+    let commitments = powers_at(round, round.group.g, &polynomial);
     Case::of(4, &[polynomial[0], round.n], bytes(&commitments))
 }
 
 /// From the so many highest members.
 fn recovery(round: &Round, count: u32, numbers: &mut Numbers) -> Case {
-    let shares = powers_at(round, H, &list(numbers, round.t, round.group.q));
+    let shares = powers_at(round, round.group.h, &list(numbers, round.t, round.group.q));
     let first = round.n - count;
     let members: Vec<u32> = (first + 1..=round.n).collect();
     let payload = bytes(&[&members[..], &shares[first as usize..]].concat());
@@ -138,7 +158,7 @@ fn recovery(round: &Round, count: u32, numbers: &mut Numbers) -> Case {
 fn equality(round: &Round, numbers: &mut Numbers) -> Case {
     let group = &round.group;
     let [x, exponent, nonce, challenge] = [(); 4].map(|()| numbers.below(group.q));
-    let bases = [G, group.power(H, x)];
+    let bases = [group.g, group.power(group.h, x)];
     let [x1, x2] = bases.map(|base| group.power(base, exponent));
     let [a1, a2] = bases.map(|base| group.power(base, nonce));
     let r = response(group, nonce, challenge, exponent);
@@ -148,7 +168,9 @@ fn equality(round: &Round, numbers: &mut Numbers) -> Case {
 
 /// So many of the most plots. A refused case has a list of the same length, which is printed too.
 fn pick_plots(round: &Round, count: u32, numbers: &mut Numbers) -> Case {
-    let value = round.group.power(H, numbers.below(round.group.q));
+    let value = round
+        .group
+        .power(round.group.h, numbers.below(round.group.q));
     let arguments = [value, 15, MOST_PLOTS, count, count];
     Case::in_group(15, &arguments, Vec::new())
 }
@@ -170,19 +192,26 @@ fn lines(
 
 /// A case with this base.
 fn loaded(base: &[u8]) -> Vec<u8> {
-    let header = record::bytes([[14, 0, 0, 0, 0, 0, 0, base.len() as u32]]);
-    [&header[..], base].concat()
+    payload_case(14, base)
+}
+
+/// A case that has a payload alone.
+fn payload_case(operation: u32, payload: &[u8]) -> Vec<u8> {
+    let length = payload.len() as u32;
+    let header = record::bytes([[operation, 0, 0, 0, 0, 0, 0, length]]);
+    [&header[..], payload].concat()
 }
 
 /// The longest chain that can be extended, of any elements. It is the base unchanged, and in a refused case the base
 /// without its last byte.
 fn chain(operation: u32, arguments: &[u32; 3], numbers: &mut Numbers) -> (Vec<u8>, Case) {
-    let chain = Chain::any([LARGEST.number; MOST - 1], numbers).bytes();
+    let chain = Chain::any(&[], [LARGEST.number; MOST - 1], numbers).bytes();
     let size = chain.len() as u32;
     let case = Case {
         header: [&[operation], &arguments[..], &[0, size]].concat(),
         payload: Vec::new(),
         fault: (5, size - 1),
+        table: Vec::new(),
     };
     (loaded(&chain), case)
 }
@@ -190,10 +219,13 @@ fn chain(operation: u32, arguments: &[u32; 3], numbers: &mut Numbers) -> (Vec<u8
 #[cfg(test)]
 mod tests {
     use super::*;
+    use crate::record::SIZE;
     use crate::replay::replay;
 
-    const NAMES: [&str; 25] = [
+    const NAMES: [&str; 27] = [
         "power",
+        "power-table",
+        "power-table-one",
         "degree",
         "opening",
         "recovery-t",
@@ -220,13 +252,13 @@ mod tests {
         "extend_chain",
     ];
 
-    /// The lines that the cases of a file are answered by, without those of a base, a round and a first round.
+    /// The lines that the cases of a file are answered by, without those of a base, a round, a first round and a table.
     fn answers(file: &[u8]) -> Vec<String> {
         let mut out = Vec::new();
         replay(file, &mut out).unwrap();
         let text = String::from_utf8(out).unwrap();
         let is_loaded = |line: &&str| {
-            ["base ", "round ", "first "]
+            ["base ", "round ", "first ", "table "]
                 .iter()
                 .any(|l| line.starts_with(l))
         };
@@ -249,6 +281,16 @@ mod tests {
             for line in refused {
                 assert!(line.contains(&refusal) || line.starts_with("lines 0 "));
             }
+        }
+    }
+
+    /// The accepted cases have a table, and the refused ones have none.
+    #[test]
+    fn cases_with_a_table() {
+        for (name, length) in [("power-table", 256), ("power-table-one", 32)] {
+            let [accepted, refused] = files(name, 1).unwrap().map(|(_, file)| file);
+            assert_eq!(accepted.len(), SIZE + length + SIZE);
+            assert_eq!(refused.len(), SIZE);
         }
     }
 

@@ -3,7 +3,7 @@
 use super::{Board, Verdict};
 use crate::answer::{require, Answer};
 use crate::record::{self, ADDED, LINE, SIZE};
-use crate::share::added::judge_added;
+use crate::share::added::judge_sum;
 use crate::sharing::at_zero;
 
 impl Board<'_> {
@@ -12,7 +12,7 @@ impl Board<'_> {
         let products = self.products(verdicts);
         let (members, shares) = self.lowest([ADDED, 0], |member, posted| {
             let k = member as usize - 1;
-            judge_added(self.figures, member, self.keys[k], products[k], posted)
+            judge_sum(&self.round, member, self.keys[k], products[k], posted)
         });
         require(members.len() == self.round.t as usize, 13)?;
         Ok(at_zero(&self.round.group, &members, &shares))
@@ -35,7 +35,6 @@ impl Board<'_> {
 #[cfg(test)]
 mod tests {
     use crate::board::{judge_board, Judged, Secret, Verdict};
-    use crate::group::{G, H};
     use crate::modular::value_at;
     use crate::posting::Members;
     use crate::record::{self, Record, ADDED, LINE, OPENING, SHARE};
@@ -90,7 +89,7 @@ mod tests {
     /// The product of the secrets of some dealings.
     fn draw_of(dealers: &[usize]) -> u32 {
         let group = FIGURES.round().unwrap().group;
-        let secrets = dealers.iter().map(|d| group.power(H, SECRETS[d - 1]));
+        let secrets = dealers.iter().map(|d| group.power(group.h, SECRETS[d - 1]));
         secrets.fold(1, |draw, secret| group.product(draw, secret))
     }
 
@@ -116,7 +115,7 @@ mod tests {
         for member in [1, 3] {
             let share = records.iter_mut().find(|r| r[..3] == [ADDED, 0, member]);
             let opened = &mut share.unwrap()[3];
-            *opened = group.product(*opened, G);
+            *opened = group.product(*opened, group.g);
         }
         assert_eq!(judged(&records).draw, Ok(draw_of(&[1, 2, 3, 4])));
         records.retain(|r| r[..3] != [ADDED, 0, 4]);

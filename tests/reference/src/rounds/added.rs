@@ -1,8 +1,8 @@
 //! Rounds with added shares: boards that end by them, boards on which they change nothing, and bad ones among them.
 
-use super::firsts::{files, FOUR, LARGEST};
+use super::firsts::{FOUR, LARGEST};
 use super::Cases;
-use crate::bench::Source;
+use crate::bench::{self, Source};
 use crate::example::{self, Round};
 use crate::numbers::Numbers;
 use crate::posting::Members;
@@ -56,7 +56,7 @@ fn played(cases: &mut Cases) {
         (3, 31, 31, 0, 0),
     ] {
         let figures = Figures::of(number, n, t).with_round(round);
-        let round_of = files(figures.with_first(first), Source::Added);
+        let round_of = bench::round(figures.with_first(first), Source::Added);
         let name = format!("added-{number}-{n}-{t}-round-{round}-first-{first}");
         cases.files(&name, &round_of, "draw ");
     }

@@ -1,8 +1,8 @@
 //! Rounds with records that were written under the other rule than that of the set.
 
-use super::firsts::{files, set_of, FOUR, LARGEST, SOURCES};
+use super::firsts::{set_of, FOUR, LARGEST, SOURCES};
 use super::Cases;
-use crate::bench::Source;
+use crate::bench::{self, Source};
 use crate::example::Round;
 use crate::numbers::Numbers;
 use crate::vectors::boards::posted::{any_members, is_line, is_opening, is_share, Posted};
@@ -24,7 +24,7 @@ fn of_the_other_rule(cases: &mut Cases) {
     ] {
         for source in SOURCES {
             let figures = FOUR.with_round(round).with_first(first);
-            let round_of = files(figures, source);
+            let round_of = bench::round(figures, source);
             let set = set_of(figures.with_first(other));
             let name = format!(
                 "round-{round}-of-first-{first}-in-{other}-{}",
@@ -37,7 +37,12 @@ fn of_the_other_rule(cases: &mut Cases) {
         let figures = LARGEST.with_round(1).with_first(first);
         let name = format!("largest-of-first-{first}-in-{other}");
         let set = set_of(figures.with_first(other));
-        cases.with_set(&name, &files(figures, Source::Recovered), set, "refused 14");
+        cases.with_set(
+            &name,
+            &bench::round(figures, Source::Recovered),
+            set,
+            "refused 14",
+        );
     }
 }
 

@@ -4,7 +4,7 @@ use super::Cases;
 use super::Place::{File, Nothing};
 use crate::bench::{self, Source};
 use crate::draw::set_record;
-use crate::example::{self, Round};
+use crate::example;
 use crate::record::{self, SIZE};
 use crate::round::Figures;
 
@@ -19,12 +19,6 @@ pub fn add(cases: &mut Cases) {
     in_round_0(cases);
     sets(cases);
     before_the_board(cases);
-}
-
-/// The files of a round in which everyone has dealt.
-pub fn files(figures: Figures, source: Source) -> Round {
-    let [(_, set), (_, board)] = bench::round(figures, source);
-    Round { set, board }
 }
 
 /// The set of a round's figures.
@@ -45,7 +39,7 @@ fn played(cases: &mut Cases) {
         for (number, n, t) in [(1, 1, 1), (1, 4, 2), (2, 10, 6), (3, 4, 4), (3, 31, 16)] {
             for source in SOURCES {
                 let figures = Figures::of(number, n, t).with_round(round);
-                let round_of = files(figures.with_first(first), source);
+                let round_of = bench::round(figures.with_first(first), source);
                 let name = format!("round-{round}-first-{first}-{number}-{n}-{}", source.name());
                 cases.files(&name, &round_of, "draw ");
             }
@@ -60,21 +54,21 @@ fn border(cases: &mut Cases) {
             for source in SOURCES {
                 let figures = FOUR.with_round(round).with_first(first);
                 let name = format!("round-{round}-first-{first}-{}", source.name());
-                cases.files(&name, &files(figures, source), "draw ");
+                cases.files(&name, &bench::round(figures, source), "draw ");
             }
         }
     }
     for round in [255, 256, 257] {
         let figures = LARGEST.with_round(round).with_first(256);
         let name = format!("round-{round}-first-256-largest");
-        cases.files(&name, &files(figures, Source::Recovered), "draw ");
+        cases.files(&name, &bench::round(figures, Source::Recovered), "draw ");
     }
 }
 
 /// Round 0 is under the old rule, whatever the first round is.
 fn in_round_0(cases: &mut Cases) {
     let round = example::round();
-    let largest = files(LARGEST, Source::Recovered);
+    let largest = bench::round(LARGEST, Source::Recovered);
     for first in [2, 256, 0x0100_0000, u32::MAX] {
         let set = changed(&round.set, 5, first);
         cases.with_set(&format!("set-first-{first}"), &round, set, "draw 13");
@@ -85,7 +79,7 @@ fn in_round_0(cases: &mut Cases) {
 
 /// The other words of a set with a first round.
 fn sets(cases: &mut Cases) {
-    let round = files(FOUR.with_round(1).with_first(1), Source::Opened);
+    let round = bench::round(FOUR.with_round(1).with_first(1), Source::Opened);
     for (word, to, end) in [
         (0, 8, "refused 4"),
         (6, 1, "refused 4"),

@@ -31,9 +31,8 @@ fn played(cases: &mut Cases) {
         for (number, n, t) in [(1, 4, 2), (2, 10, 6), (3, 31, 16)] {
             for source in [Source::Opened, Source::Recovered] {
                 let figures = Figures::of(number, n, t).with_round(round);
-                let [(_, set), (_, board)] = bench::round(figures, source);
                 let name = format!("round-{round}-{number}-{n}-{}", source.name());
-                cases.files(&name, &Round { set, board }, "draw ");
+                cases.files(&name, &bench::round(figures, source), "draw ");
             }
         }
     }

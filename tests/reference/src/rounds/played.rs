@@ -5,9 +5,9 @@ use crate::bench::{self, Source};
 use crate::draw::set_record;
 use crate::example::{self, Round};
 use crate::forge;
-use crate::group::H;
 use crate::record::{self, KEY, SIZE};
 use crate::round::Figures;
+use crate::table::H;
 
 pub fn add(cases: &mut Cases) {
     cases.files("example", &example::round(), "draw 13");
@@ -36,9 +36,9 @@ fn largest(cases: &mut Cases) {
     for number in [2, 3] {
         for t in [1, 16, 31] {
             for source in [Source::Opened, Source::Recovered] {
-                let [(_, set), (_, board)] = bench::round(Figures::of(number, 31, t), source);
+                let round = bench::round(Figures::of(number, 31, t), source);
                 let name = format!("largest-{number}-{t}-{}", source.name());
-                cases.files(&name, &Round { set, board }, "draw ");
+                cases.files(&name, &round, "draw ");
             }
         }
     }

@@ -5,17 +5,17 @@ use super::{judge, write, Kind};
 use crate::answer::{require, Answer};
 use crate::message;
 use crate::record::ADDED;
-use crate::round::Figures;
+use crate::round::{Lent, Round};
 
-const KIND: Kind = Kind {
+pub const KIND: Kind = Kind {
     tag: message::ADDED,
     number: ADDED,
     dealer: 0,
 };
 
-/// The operation, from Y, the secret key and the nonce: 1, 2; 8 member; 3 other than 32 bytes; 6; 7.
+/// The operation, from Y, the secret key and the nonce: the table's numbers; 1, 2; 8 member; 3 other than 32 bytes; 6; 7.
 pub fn write_added(
-    figures: Figures,
+    figures: Lent,
     member: u32,
     encrypted: u32,
     secret_key: u32,
@@ -27,26 +27,35 @@ pub fn write_added(
     write(&round, &KIND, member, encrypted, secret_key, nonce, out)
 }
 
-/// The operation, with the member's key and the product of his Y; it answers S. 1, 2; 8 member; 3; 6 y or Y; 4; 17; 6 S; 7;
-/// 10.
+/// The operation, with the member's key and the product of his Y; it answers S. The table's numbers; 1, 2; 8 member; 3; 6 y or
+/// Y; 4; 17; 6 S; 7; 10.
 pub fn judge_added(
-    figures: Figures,
+    figures: Lent,
     member: u32,
     key: u32,
     encrypted: u32,
     bytes: &[u8],
 ) -> Answer<u32> {
-    let round = figures.round()?;
+    judge_sum(&figures.round()?, member, key, encrypted, bytes)
+}
+
+/// The same of a round whose figures are judged.
+pub fn judge_sum(
+    round: &Round,
+    member: u32,
+    key: u32,
+    encrypted: u32,
+    bytes: &[u8],
+) -> Answer<u32> {
     require(round.has_member(member), 8)?;
-    judge(&round, &KIND, member, key, encrypted, bytes)
+    judge(round, &KIND, member, key, encrypted, bytes)
 }
 
 #[cfg(test)]
 mod tests {
     use super::*;
-    use crate::group::H;
     use crate::record::{self, SHARE, SIZE};
-    use crate::round::FOUR;
+    use crate::round::{Figures, FOUR};
     use crate::share::{judge_share, write_share};
 
     const FIGURES: Figures = Figures { number: 3, ..FOUR };
@@ -54,7 +63,7 @@ mod tests {
     const ROUNDS: [u32; 4] = [0, 1, 0x0102_0304, u32::MAX];
 
     fn key() -> u32 {
-        FIGURES.round().unwrap().group.power(H, SECRET_KEY)
+        FIGURES.round().unwrap().group.power(9, SECRET_KEY)
     }
 
     /// Y of the exponent 77.
@@ -75,7 +84,7 @@ mod tests {
 
     #[test]
     fn a_written_share_is_accepted_and_true() {
-        let opened = FIGURES.round().unwrap().group.power(H, 77);
+        let opened = FIGURES.round().unwrap().group.power(9, 77);
         for round in ROUNDS {
             let record = written(FIGURES.with_round(round));
             let [kind, dealer, member, s, _, _, spare, of_round] = record::read(&record);

@@ -9,7 +9,7 @@ pub mod judge;
 mod ones;
 mod parts;
 mod played;
-mod playing;
+pub mod playing;
 mod records;
 mod refused;
 mod relabelled;

@@ -29,18 +29,19 @@ const LARGEST: [(u32, u32); 4] = [(2, 16), (3, 1), (3, 16), (3, 31)];
 
 impl Posted {
     pub fn text(&self) -> String {
-        draw::text(&self.set, &self.board())
+        draw::text(self.table, &self.set, &self.board())
     }
 
     /// Adds a case. Returns the text.
     pub fn add(&self, vectors: &mut Vectors) -> String {
+        vectors.lend(self.table);
         add_files(vectors, &self.set, &self.board())
     }
 }
 
 /// Adds a case of the bytes of both files. Returns the text.
 pub fn add_files(vectors: &mut Vectors, set: &[u8], board: &[u8]) -> String {
-    let text = draw::text(set, board);
+    let text = draw::text(vectors.table, set, board);
     let lengths = [vectors.base.len() as u32, set.len() as u32];
     let arguments = [0, 0, 0, 0, lengths[0], lengths[1]];
     let payload = [set, &splices(&vectors.base, board)].concat();

@@ -4,7 +4,8 @@ use super::splices::applied;
 use crate::record::{self, SIZE};
 
 pub struct Case<'a> {
-    /// The number of the round before the case, and that of the first round under the new rule.
+    /// The table before the case, the number of the round, and that of the first round under the new rule.
+    pub table: &'a [u8],
     pub round: u32,
     pub first: u32,
     pub operation: u32,
@@ -15,7 +16,8 @@ pub struct Case<'a> {
     pub answer: &'a str,
     /// The text of `draw` behind the line.
     pub text: &'a str,
-    base: &'a [u8],
+    /// The board or chain of which the case's own is made.
+    pub base: &'a [u8],
 }
 
 impl Case<'_> {
@@ -34,7 +36,8 @@ impl Case<'_> {
 /// The cases of an input with their lines and, of the text, so many bytes behind as the line says. None where these are
 /// not the answers to the input.
 pub fn read<'a>(mut input: &'a [u8], mut output: &'a str) -> Option<Vec<Case<'a>>> {
-    let (mut cases, mut round, mut first, mut base) = (Vec::new(), 0, 0, &[][..]);
+    let (mut cases, mut round, mut first) = (Vec::new(), 0, 0);
+    let (mut table, mut base) = (&[][..], &[][..]);
     while !input.is_empty() {
         let (header, behind) = input.split_at_checked(SIZE)?;
         let [operation, a, b, c, d, e, f, length] = record::read(header);
@@ -47,9 +50,11 @@ pub fn read<'a>(mut input: &'a [u8], mut output: &'a str) -> Option<Vec<Case<'a>
             14 => base = payload,
             16 => round = a,
             19 => first = a,
+            22 => table = payload,
             _ => {}
         }
         cases.push(Case {
+            table,
             round,
             first,
             operation,

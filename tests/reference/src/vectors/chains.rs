@@ -3,7 +3,7 @@
 //! arguments. The buffer is lent with the same byte in every place, and the line has its bytes at the end.
 
 mod extended;
-mod faulty;
+pub mod faulty;
 mod figures;
 mod forged;
 mod lengths;
@@ -14,8 +14,8 @@ use super::splices::splices;
 use super::{passed, Operation, Vectors};
 use crate::answer::Answer;
 use crate::chain::{extend_chain, judge_chain, LINK, MOST};
-use crate::group::H;
 use crate::numbers::Numbers;
+use crate::table::H;
 use links::Chain;
 
 const JUDGE_CHAIN: Operation = Operation {
@@ -37,11 +37,11 @@ const GROUPS: [u32; 6] = [3, 1, 2, 3, 2, 1];
 
 /// A case of extending a chain.
 #[derive(Clone)]
-struct Extension {
-    chain: Chain,
-    number: u32,
-    value: u32,
-    size: usize,
+pub struct Extension {
+    pub chain: Chain,
+    pub number: u32,
+    pub value: u32,
+    pub size: usize,
 }
 
 impl Extension {
@@ -56,31 +56,36 @@ impl Extension {
     }
 
     /// What the operation answers, and what the buffer then has in it.
-    fn written(&self) -> (Answer<()>, Vec<u8>) {
+    fn written(&self, table: &[u8]) -> (Answer<()>, Vec<u8>) {
         let mut buffer = lent(self.size);
         let chain = self.chain.bytes();
-        let answer = extend_chain(&chain, self.number, self.value, &mut buffer);
+        let answer = extend_chain(table, &chain, self.number, self.value, &mut buffer);
         (answer, buffer)
     }
 
     /// Adds the case. Returns the number that it is refused by.
-    fn add(&self, vectors: &mut Vectors) -> Option<u32> {
+    pub fn add(&self, vectors: &mut Vectors) -> Option<u32> {
         assert!(self.size <= ROOM);
         let (taken, changes) = given(vectors, &self.chain.bytes());
         let arguments = [self.number, self.value, self.size as u32, 0, taken];
-        let (answer, buffer) = self.written();
+        let (answer, buffer) = self.written(vectors.table);
         vectors.add_written(&EXTEND_CHAIN, &arguments, &changes, answer, &buffer)
     }
 }
 
 impl Chain {
+    /// Adds a case of judging the chain. Returns the number that it is refused by.
+    pub fn judge(&self, vectors: &mut Vectors) -> Option<u32> {
+        let chain = self.bytes();
+        let (taken, changes) = given(vectors, &chain);
+        let answer = passed(judge_chain(vectors.table, &chain));
+        vectors.add(&JUDGE_CHAIN, &[0, 0, 0, 0, taken], &changes, answer)
+    }
+
     /// Adds a case of judging the chain, and one of extending it. Returns the number that it is refused by. Where it is
     /// accepted it can be extended unless it is full.
     fn add(&self, vectors: &mut Vectors) -> Option<u32> {
-        let chain = self.bytes();
-        let (taken, changes) = given(vectors, &chain);
-        let answer = passed(judge_chain(&chain));
-        let refusal = vectors.add(&JUDGE_CHAIN, &[0, 0, 0, 0, taken], &changes, answer);
+        let refusal = self.judge(vectors);
         let is_full = self.links.len() == MOST;
         let extended = Extension::of(self).add(vectors);
         assert_eq!(extended, refusal.or(is_full.then_some(3)));

@@ -9,6 +9,7 @@ mod links;
 mod others;
 mod rounds;
 mod rules;
+mod tables;
 mod ways;
 
 use super::cases::{read, Case};
@@ -21,12 +22,19 @@ use std::collections::BTreeSet;
 use std::sync::OnceLock;
 
 /// Every case.
-fn cases() -> &'static [Case<'static>] {
+fn all() -> &'static [Case<'static>] {
     static CASES: OnceLock<Vec<Case>> = OnceLock::new();
     CASES.get_or_init(|| {
         let Vectors { stdin, stdout, .. } = once();
         read(stdin, stdout).unwrap()
     })
+}
+
+/// The cases before the first with a table, which are of the built-in groups.
+fn cases() -> &'static [Case<'static>] {
+    let cases = all();
+    let first = cases.iter().position(|case| case.operation == 22);
+    &cases[..first.unwrap_or(cases.len())]
 }
 
 fn answered(operation: u32) -> impl Iterator<Item = &'static Case<'static>> {
@@ -141,7 +149,7 @@ fn the_fewest_members_and_the_most() {
 #[test]
 fn unequal_challenges_of_which_one_is_no_exponent() {
     for number in 1..=3 {
-        let q = group(number).unwrap().q;
+        let q = group(&[], number).unwrap().q;
         let is_one = |case: &Case| {
             let lines = lines(case);
             let challenges = lines.iter().filter(|line| line[6] < q).count();
@@ -197,7 +205,7 @@ fn lines_in_whole_and_in_part_and_none() {
 fn a_thousand_boards_with_their_texts() {
     let mut boards = BTreeSet::new();
     for Files { set, board, text } in texts() {
-        assert_eq!(draw::text(set, board), *text);
+        assert_eq!(draw::text(&[], set, board), *text);
         boards.insert((set, board));
     }
     for number in 1..=3 {

@@ -4,7 +4,6 @@
 use super::faults::{in_round, Fault, InRound};
 use super::sample::{list, other_element, over_rounds, places, proper};
 use super::{bytes, passed, Operation, Vectors};
-use crate::group::G;
 use crate::numbers::Numbers;
 use crate::round::{Figures, FOUR};
 use crate::sharing::{degree_check, powers_at};
@@ -15,10 +14,10 @@ const DEGREE: Operation = Operation {
 };
 
 #[derive(Clone)]
-struct Case {
-    figures: Figures,
-    commitments: Vec<u32>,
-    coefficients: Vec<u32>,
+pub struct Case {
+    pub figures: Figures,
+    pub commitments: Vec<u32>,
+    pub coefficients: Vec<u32>,
 }
 
 impl InRound for Case {
@@ -56,7 +55,7 @@ fn by_hand(vectors: &mut Vectors) {
     case(&[9, 16, 8, 4], &[1, 0]);
     case(&[9, 16, 8, 4], &[0, 1]);
     let group = proper(FOUR).group;
-    let uncarried = [0, 7, 1, 0].map(|exponent| group.power(G, exponent));
+    let uncarried = [0, 7, 1, 0].map(|exponent| group.power(group.g, exponent));
     for commitments in [[9, 16, 9, 4], uncarried] {
         for first in 0..group.q {
             for last in 0..group.q {
@@ -66,7 +65,7 @@ fn by_hand(vectors: &mut Vectors) {
     }
 }
 
-/// Carried commitments; the same with one multiplied by 4, so that no polynomial carries them unless n = t; and with
+/// Carried commitments; the same with one multiplied by g, so that no polynomial carries them unless n = t; and with
 /// one figure at the end of its range or outside.
 pub fn varied(vectors: &mut Vectors, figures: Figures, numbers: &mut Numbers) {
     let round = proper(figures);
@@ -74,13 +73,13 @@ pub fn varied(vectors: &mut Vectors, figures: Figures, numbers: &mut Numbers) {
     let polynomial = list(numbers, round.t, q);
     let carried = Case {
         figures,
-        commitments: powers_at(&round, G, &polynomial),
+        commitments: powers_at(&round, round.group.g, &polynomial),
         coefficients: list(numbers, round.n - round.t, q),
     };
     carried.add(vectors);
     for k in places(carried.commitments.len()) {
         let v = carried.commitments[k];
-        for changed in [round.group.product(v, G), 1, p - v] {
+        for changed in [round.group.product(v, round.group.g), 1, p - v] {
             let mut case = carried.clone();
             case.commitments[k] = changed;
             case.add(vectors);
@@ -100,7 +99,7 @@ pub fn refused(vectors: &mut Vectors, figures: Figures, numbers: &mut Numbers) {
     let (p, q) = (round.group.p, round.group.q);
     let carried = Case {
         figures,
-        commitments: powers_at(&round, G, &list(numbers, 2, q)),
+        commitments: powers_at(&round, round.group.g, &list(numbers, 2, q)),
         coefficients: vec![1, 1],
     };
     let other = |v: &mut u32| *v = other_element(&round.group, *v);

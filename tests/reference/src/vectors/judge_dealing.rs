@@ -5,7 +5,6 @@ use super::faults::{in_round, Fault, InRound};
 use super::sample::{fours, keys, list, other_element, other_exponent, proper, rounds};
 use super::{bytes, passed, Operation, Vectors};
 use crate::dealing::{deal, judge_dealing, write_dealing};
-use crate::group::G;
 use crate::modular::difference;
 use crate::numbers::Numbers;
 use crate::record::{self, SIZE};
@@ -98,7 +97,7 @@ pub fn add(vectors: &mut Vectors) {
 
 /// Dealings as they are written: of any polynomial, of 0, whose v and Y are all 1, and of one with the value 0 at the
 /// last member.
-fn written(vectors: &mut Vectors, figures: Figures, numbers: &mut Numbers) {
+pub fn written(vectors: &mut Vectors, figures: Figures, numbers: &mut Numbers) {
     let q = proper(figures).group.q;
     let dealer = 1 + numbers.below(figures.n);
     let mut polynomial = list(numbers, figures.t, q);
@@ -125,15 +124,18 @@ fn written(vectors: &mut Vectors, figures: Figures, numbers: &mut Numbers) {
 
 /// Each word of the line number k changed: to the next number, to an element or exponent if it was one, to its negative
 /// and to the largest word.
-fn damaged(vectors: &mut Vectors, figures: Figures, k: usize, numbers: &mut Numbers) {
+pub fn damaged(vectors: &mut Vectors, figures: Figures, k: usize, numbers: &mut Numbers) {
     let group = proper(figures).group;
     let polynomial = list(numbers, figures.t, group.q);
     let right = Case::of(figures, 1, &polynomial, numbers);
     for word in 0..8 {
         let changes: [&dyn Fn(u32) -> u32; 4] = match word {
-            3 | 4 => [&|v| group.product(v, G), &|v| group.p - v, &|_| 1, &|_| {
-                u32::MAX
-            }],
+            3 | 4 => [
+                &|v| group.product(v, group.g),
+                &|v| group.p - v,
+                &|_| 1,
+                &|_| u32::MAX,
+            ],
             5 | 6 => [&|e| (e + 1) % group.q, &|e| e + group.q, &|_| 0, &|_| {
                 u32::MAX
             }],

@@ -4,7 +4,6 @@
 use super::faults::{in_round, Fault, InRound};
 use super::sample::{fours, other_element, other_exponent, proper, rounds};
 use super::{bytes, Operation, Vectors};
-use crate::group::{G, H};
 use crate::numbers::Numbers;
 use crate::record::{self, SHARE, SIZE};
 use crate::round::{Figures, FOUR};
@@ -32,7 +31,7 @@ impl Case {
     /// A share as it is written, from any secret key, Y and nonce.
     pub fn any(figures: Figures, numbers: &mut Numbers) -> Case {
         let group = proper(figures).group;
-        let encrypted = group.power(G, numbers.below(group.q));
+        let encrypted = group.power(group.g, numbers.below(group.q));
         Case::of(figures, encrypted, numbers)
     }
 
@@ -43,7 +42,7 @@ impl Case {
             figures,
             dealer: 1 + numbers.below(figures.n),
             member: 1 + numbers.below(figures.n),
-            key: group.power(H, x),
+            key: group.power(group.h, x),
             encrypted,
             record: vec![0; SIZE],
         };
@@ -117,7 +116,7 @@ pub fn add(vectors: &mut Vectors) {
 fn forged(vectors: &mut Vectors, numbers: &mut Numbers) {
     let mut case = Case::any(FOUR, numbers);
     let group = proper(FOUR).group;
-    case.change(3, |opened| group.product(opened, G));
+    case.change(3, |opened| group.product(opened, group.g));
     for challenge in 0..group.q {
         for response in 0..group.q {
             let Case { dealer, member, .. } = case;
@@ -131,14 +130,17 @@ fn forged(vectors: &mut Vectors, numbers: &mut Numbers) {
 
 /// Each word changed: to the next number, to an element or exponent if it was one, to its negative and to the largest
 /// word.
-fn damaged(vectors: &mut Vectors, figures: Figures, numbers: &mut Numbers) {
+pub fn damaged(vectors: &mut Vectors, figures: Figures, numbers: &mut Numbers) {
     let group = proper(figures).group;
     let right = Case::any(figures, numbers);
     for word in 0..8 {
         let changes: [&dyn Fn(u32) -> u32; 4] = match word {
-            3 => [&|v| group.product(v, G), &|v| group.p - v, &|_| 1, &|_| {
-                u32::MAX
-            }],
+            3 => [
+                &|v| group.product(v, group.g),
+                &|v| group.p - v,
+                &|_| 1,
+                &|_| u32::MAX,
+            ],
             4 | 5 => [&|e| (e + 1) % group.q, &|e| e + group.q, &|_| 0, &|_| {
                 u32::MAX
             }],
@@ -169,7 +171,7 @@ fn elsewhere(vectors: &mut Vectors, figures: Figures, numbers: &mut Numbers) {
         case.change(word, other);
         case.add(vectors);
     }
-    for figure in [G, group.product(right.key, G), 1] {
+    for figure in [group.g, group.product(right.key, group.g), 1] {
         Case {
             key: figure,
             ..right.clone()

@@ -4,7 +4,6 @@
 use super::faults::{in_round, Fault, InRound};
 use super::sample::{list, other_element, over_rounds, places, proper};
 use super::{bytes, passed, Operation, Vectors};
-use crate::group::G;
 use crate::numbers::Numbers;
 use crate::round::{Figures, FOUR};
 use crate::sharing::{opening, powers_at};
@@ -15,10 +14,10 @@ const OPENING: Operation = Operation {
 };
 
 #[derive(Clone)]
-struct Case {
-    figures: Figures,
-    commitments: Vec<u32>,
-    s: u32,
+pub struct Case {
+    pub figures: Figures,
+    pub commitments: Vec<u32>,
+    pub s: u32,
 }
 
 impl InRound for Case {
@@ -48,7 +47,7 @@ pub fn add(vectors: &mut Vectors) {
 /// Every opening of the commitments by hand, and of others that no polynomial carries.
 fn by_hand(vectors: &mut Vectors) {
     let group = proper(FOUR).group;
-    let uncarried = [0, 7, 1, 0].map(|exponent| group.power(G, exponent));
+    let uncarried = [0, 7, 1, 0].map(|exponent| group.power(group.g, exponent));
     for commitments in [[9, 16, 8, 4], [9, 16, 9, 4], uncarried] {
         for s in 0..=group.q + 3 {
             let case = Case {
@@ -61,7 +60,7 @@ fn by_hand(vectors: &mut Vectors) {
     }
 }
 
-/// The right opening and others; then the right one with each commitment multiplied by 4, which leaves it right for
+/// The right opening and others; then the right one with each commitment multiplied by g, which leaves it right for
 /// those of the members above t, and with each commitment negative.
 pub fn varied(vectors: &mut Vectors, figures: Figures, numbers: &mut Numbers) {
     let round = proper(figures);
@@ -69,7 +68,7 @@ pub fn varied(vectors: &mut Vectors, figures: Figures, numbers: &mut Numbers) {
     let polynomial = list(numbers, round.t, q);
     let right = Case {
         figures,
-        commitments: powers_at(&round, G, &polynomial),
+        commitments: powers_at(&round, round.group.g, &polynomial),
         s: polynomial[0],
     };
     right.add(vectors);
@@ -80,7 +79,7 @@ pub fn varied(vectors: &mut Vectors, figures: Figures, numbers: &mut Numbers) {
     }
     for k in places(right.commitments.len()) {
         let v = right.commitments[k];
-        for changed in [round.group.product(v, G), p - v] {
+        for changed in [round.group.product(v, round.group.g), p - v] {
             let mut case = right.clone();
             case.commitments[k] = changed;
             case.add(vectors);
@@ -94,7 +93,7 @@ pub fn refused(vectors: &mut Vectors, figures: Figures, numbers: &mut Numbers) {
     let polynomial = list(numbers, 2, q);
     let right = Case {
         figures,
-        commitments: powers_at(&round, G, &polynomial),
+        commitments: powers_at(&round, round.group.g, &polynomial),
         s: polynomial[0],
     };
     let other = |v: &mut u32| *v = other_element(&round.group, *v);

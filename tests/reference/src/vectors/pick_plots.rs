@@ -4,9 +4,10 @@
 use super::faults::{singly_and_in_pairs, Fault};
 use super::sample::end_values;
 use super::{bytes, Operation, Vectors};
-use crate::group::{group, Group, G, H};
+use crate::group::Group;
 use crate::numbers::Numbers;
 use crate::plots::pick_plots;
+use crate::table::{G, H};
 use std::collections::BTreeSet;
 
 const PICK_PLOTS: Operation = Operation {
@@ -30,18 +31,18 @@ const TIES: [(u32, u32, u32); 3] = [(211, 15, 141), (920, 15, 1583), (810, 10, 3
 const TOTALS: [u32; 10] = [31, 32, 33, 63, 64, 65, 127, 128, 129, 1000];
 
 #[derive(Clone, Copy)]
-struct Case {
-    number: u32,
-    value: u32,
-    radius: u32,
-    total: u32,
-    count: u32,
-    room: u32,
+pub struct Case {
+    pub number: u32,
+    pub value: u32,
+    pub radius: u32,
+    pub total: u32,
+    pub count: u32,
+    pub room: u32,
 }
 
 impl Case {
     /// Of so many plots so many, into a list of that length.
-    fn of(number: u32, value: u32, radius: u32, total: u32, count: u32) -> Case {
+    pub fn of(number: u32, value: u32, radius: u32, total: u32, count: u32) -> Case {
         Case {
             number,
             value,
@@ -53,7 +54,7 @@ impl Case {
     }
 
     /// Adds the case. Returns the number that it is refused by.
-    fn add(&self, vectors: &mut Vectors) -> Option<u32> {
+    pub fn add(&self, vectors: &mut Vectors) -> Option<u32> {
         let &Case {
             number,
             value,
@@ -65,7 +66,15 @@ impl Case {
         assert!(room <= ROOM);
         let arguments = [number, value, radius, total, count, room];
         let mut list = lent(room);
-        let answer = pick_plots(number, value, radius, total, count, &mut list);
+        let answer = pick_plots(
+            vectors.table,
+            number,
+            value,
+            radius,
+            total,
+            count,
+            &mut list,
+        );
         vectors.add_written(&PICK_PLOTS, &arguments, &[], answer, &bytes(&list))
     }
 }
@@ -79,7 +88,7 @@ pub fn add(vectors: &mut Vectors) {
     every_value(vectors);
     let mut numbers = Numbers::new(15);
     for number in 1..=3 {
-        let group = group(number).expect("a group from 1 to 3");
+        let group = vectors.group(number);
         values(vectors, number, &group);
         radii(vectors, number);
         refused(vectors, number, &group);
@@ -168,9 +177,9 @@ fn ties(vectors: &mut Vectors) {
 
 /// All plots and some of them, for one N after another.
 fn totals(vectors: &mut Vectors, numbers: &mut Numbers) {
-    let group = group(3).expect("group 3");
+    let group = vectors.group(3);
     for total in TOTALS {
-        let value = group.power(G, numbers.below(group.q));
+        let value = group.power(group.g, numbers.below(group.q));
         let some = 1 + numbers.below(total);
         for (radius, count) in RADII.into_iter().zip([some, total]) {
             Case::of(3, value, radius, total, count).add(vectors);
@@ -180,7 +189,7 @@ fn totals(vectors: &mut Vectors, numbers: &mut Numbers) {
 
 /// All of the most plots for each radius, one plot fewer, and long lists that are refused.
 fn longest(vectors: &mut Vectors) {
-    let value = group(3).expect("group 3").power(H, MOST);
+    let value = vectors.group(3).power(H, MOST);
     for radius in RADII {
         Case::of(3, value, radius, MOST, MOST).add(vectors);
     }
@@ -196,7 +205,7 @@ fn longest(vectors: &mut Vectors) {
 /// Every k of a few N, all plots of every small N, and some plots of any small N and of the most.
 fn varied(vectors: &mut Vectors, number: u32, group: &Group, numbers: &mut Numbers) {
     let mut add = |total: u32, count: u32| {
-        let value = group.power(G, numbers.below(group.q));
+        let value = group.power(group.g, numbers.below(group.q));
         let radius = RADII[numbers.below(2) as usize];
         Case::of(number, value, radius, total, count).add(vectors);
     };
@@ -238,7 +247,7 @@ fn refused(vectors: &mut Vectors, number: u32, group: &Group) {
         (3, &|c| c.room = 4),
         (3, &|c| c.room = 6),
     ];
-    let value = group.power(G, group.q - 1);
+    let value = group.power(group.g, group.q - 1);
     let proper = Case::of(number, value, 10, 12, 5);
     let order = [1, 6, 15, 16, 3];
     singly_and_in_pairs(&order, &proper, &faults, |case| case.add(vectors));

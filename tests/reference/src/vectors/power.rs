@@ -2,7 +2,7 @@
 
 use super::faults::{singly_and_in_pairs, Fault};
 use super::{Operation, Vectors};
-use crate::group::{group, power, Group, G, H};
+use crate::group::{power, Group};
 use crate::numbers::Numbers;
 
 const POWER: Operation = Operation {
@@ -20,7 +20,7 @@ pub fn add(vectors: &mut Vectors) {
     grid(vectors, 1, &bases, &exponents);
     let mut numbers = Numbers::new(2);
     for (number, count) in [(1, 0), (2, 40), (3, 80)] {
-        let group = group(number).expect("a group from 1 to 3");
+        let group = vectors.group(number);
         edges(vectors, number, &group);
         refused(vectors, number, &group);
         for _ in 0..count {
@@ -30,13 +30,13 @@ pub fn add(vectors: &mut Vectors) {
 }
 
 /// Adds a case. Returns the number that it is refused by.
-fn case(vectors: &mut Vectors, number: u32, base: u32, exponent: u32) -> Option<u32> {
-    let answer = power(number, base, exponent).map(|value| value.to_string());
+pub fn case(vectors: &mut Vectors, number: u32, base: u32, exponent: u32) -> Option<u32> {
+    let answer = power(vectors.table, number, base, exponent).map(|value| value.to_string());
     vectors.add(&POWER, &[number, base, exponent], &[], answer)
 }
 
 /// The faults of group, base and exponent.
-fn refused(vectors: &mut Vectors, number: u32, &Group { p, q }: &Group) {
+fn refused(vectors: &mut Vectors, number: u32, &Group { p, q, g, .. }: &Group) {
     let faults: [Fault<[u32; 3]>; 6] = [
         (1, &|c| c[0] = 0),
         (1, &|c| c[0] = 4),
@@ -45,7 +45,7 @@ fn refused(vectors: &mut Vectors, number: u32, &Group { p, q }: &Group) {
         (7, &|c| c[2] = q),
         (7, &|c| c[2] = u32::MAX),
     ];
-    let proper = [number, G, q - 1];
+    let proper = [number, g, q - 1];
     singly_and_in_pairs(&[1, 6, 7], &proper, &faults, |&[number, base, exponent]| {
         case(vectors, number, base, exponent)
     });
@@ -68,20 +68,20 @@ fn grid(vectors: &mut Vectors, number: u32, bases: &[u32], exponents: &[u32]) {
 }
 
 /// Bases and exponents around 0, q and p.
-fn edges(vectors: &mut Vectors, number: u32, &Group { p, q }: &Group) {
+fn edges(vectors: &mut Vectors, number: u32, &Group { p, q, g, h }: &Group) {
     let bases = [
         0,
         1,
         2,
-        G,
-        H,
+        g,
+        h,
         q,
-        p - H,
-        p - G,
+        p - h,
+        p - g,
         p - 1,
         p,
         p + 1,
-        p + G,
+        p + g,
         u32::MAX,
     ];
     let exponents = [0, 1, 2, q / 2, q - 2, q - 1, q, q + 1, p - 1, p, u32::MAX];
@@ -91,7 +91,7 @@ fn edges(vectors: &mut Vectors, number: u32, &Group { p, q }: &Group) {
 /// An element, its negative (which is none, since -1 is none) and any residue with an exponent below q, and the
 /// element with any exponent.
 fn varied(vectors: &mut Vectors, number: u32, group: &Group, numbers: &mut Numbers) {
-    let element = group.power(G, numbers.below(group.q));
+    let element = group.power(group.g, numbers.below(group.q));
     for base in [element, group.p - element, numbers.below(group.p)] {
         case(vectors, number, base, numbers.below(group.q));
     }

@@ -3,7 +3,6 @@
 use super::faults::{in_round, Fault, InRound};
 use super::sample::{list, over_rounds, places, proper};
 use super::{bytes, Operation, Vectors};
-use crate::group::{G, H};
 use crate::numbers::Numbers;
 use crate::round::{Figures, Round, FOUR};
 use crate::sharing::{powers_at, recovery};
@@ -14,15 +13,15 @@ const RECOVERY: Operation = Operation {
 };
 
 #[derive(Clone)]
-struct Case {
-    figures: Figures,
-    members: Vec<u32>,
-    shares: Vec<u32>,
+pub struct Case {
+    pub figures: Figures,
+    pub members: Vec<u32>,
+    pub shares: Vec<u32>,
 }
 
 impl Case {
     /// The members with their shares of all.
-    fn of(figures: Figures, members: &[u32], all: &[u32]) -> Case {
+    pub fn of(figures: Figures, members: &[u32], all: &[u32]) -> Case {
         Case {
             figures,
             members: members.to_vec(),
@@ -98,7 +97,11 @@ fn shuffled(round: &Round, numbers: &mut Numbers) -> Vec<u32> {
 /// a false share, a share that is no element, and a member named twice, at each place.
 pub fn varied(vectors: &mut Vectors, figures: Figures, numbers: &mut Numbers) {
     let round = proper(figures);
-    let all = powers_at(&round, H, &list(numbers, round.t, round.group.q));
+    let all = powers_at(
+        &round,
+        round.group.h,
+        &list(numbers, round.t, round.group.q),
+    );
     let upwards: Vec<u32> = (1..=round.n).collect();
     let downwards: Vec<u32> = (1..=round.n).rev().collect();
     let mixed = shuffled(&round, numbers);
@@ -110,7 +113,10 @@ pub fn varied(vectors: &mut Vectors, figures: Figures, numbers: &mut Numbers) {
     let quorum = Case::of(figures, &mixed[..t], &all);
     for k in places(t) {
         let share = quorum.shares[k];
-        for changed in [round.group.product(share, G), round.group.p - share] {
+        for changed in [
+            round.group.product(share, round.group.g),
+            round.group.p - share,
+        ] {
             let mut case = quorum.clone();
             case.shares[k] = changed;
             case.add(vectors);
@@ -125,7 +131,7 @@ pub fn varied(vectors: &mut Vectors, figures: Figures, numbers: &mut Numbers) {
 pub fn refused(vectors: &mut Vectors, figures: Figures, numbers: &mut Numbers) {
     let round = proper(figures);
     let p = round.group.p;
-    let all = powers_at(&round, H, &list(numbers, 2, round.group.q));
+    let all = powers_at(&round, round.group.h, &list(numbers, 2, round.group.q));
     let quorum = Case::of(figures, &[3, 1, 4], &all);
     let faults: [Fault<Case>; 11] = [
         (3, &|c| c.members.push(2)),
@@ -141,7 +147,7 @@ pub fn refused(vectors: &mut Vectors, figures: Figures, numbers: &mut Numbers) {
         (8, &|c| c.members[0] = u32::MAX),
         (8, &|c| c.members.fill(4)),
         (6, &|c| c.shares.fill(0)),
-        (6, &|c| c.shares.fill(p - G)),
+        (6, &|c| c.shares.fill(p - round.group.g)),
         (6, &|c| c.shares.fill(p - 1)),
         (6, &|c| c.shares.fill(p)),
     ];

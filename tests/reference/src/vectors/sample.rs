@@ -1,7 +1,7 @@
 //! Rounds and figures of which cases are made.
 
 use super::Vectors;
-use crate::group::{Group, G, H};
+use crate::group::Group;
 use crate::numbers::Numbers;
 use crate::round::{Figures, Round, FOUR};
 
@@ -73,22 +73,24 @@ pub fn places(length: usize) -> Vec<usize> {
 /// Keys of a round's members.
 pub fn keys(round: &Round, numbers: &mut Numbers) -> Vec<u32> {
     let secret_keys = list(numbers, round.n, round.group.q - 1);
-    let keys = secret_keys.iter().map(|x| round.group.power(H, 1 + x));
+    let keys = secret_keys
+        .iter()
+        .map(|x| round.group.power(round.group.h, 1 + x));
     keys.collect()
 }
 
 /// Figures at the ends of the range of elements: the least and the largest element, and such as are none.
 pub fn end_values(group: &Group) -> [u32; 9] {
-    let p = group.p;
+    let Group { p, g, .. } = *group;
     let largest = (1..p).rev().find(|&figure| group.is_element(figure));
     let largest = largest.expect("1 is an element");
-    [0, 1, p - G, largest, p - 1, p, p + 1, p + G, u32::MAX]
+    [0, 1, p - g, largest, p - 1, p, p + 1, p + g, u32::MAX]
 }
 
 /// Another element for an element. A figure that is none stays.
 pub fn other_element(group: &Group, figure: u32) -> u32 {
     if group.is_element(figure) {
-        group.product(figure, G)
+        group.product(figure, group.g)
     } else {
         figure
     }

@@ -21,9 +21,9 @@ pub struct Case {
     pub figures: Figures,
     pub dealer: u32,
     pub keys: Vec<u32>,
-    coefficients: Vec<u32>,
-    nonces: Vec<u32>,
-    size: usize,
+    pub coefficients: Vec<u32>,
+    pub nonces: Vec<u32>,
+    pub size: usize,
 }
 
 impl Case {
@@ -86,7 +86,7 @@ pub fn add(vectors: &mut Vectors) {
 
 /// Any polynomial and nonces; in the smaller rounds also a polynomial with the value 0 at the last member, whose v and
 /// Y are then 1, the polynomial 0, and nonces at the ends of their range.
-fn varied(vectors: &mut Vectors, figures: Figures, numbers: &mut Numbers) {
+pub fn varied(vectors: &mut Vectors, figures: Figures, numbers: &mut Numbers) {
     let q = proper(figures).group.q;
     let dealer = 1 + numbers.below(figures.n);
     let any = Case::of(figures, dealer, numbers);

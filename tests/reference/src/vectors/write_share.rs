@@ -6,7 +6,6 @@ use super::faults::{in_round, Fault, InRound};
 use super::sample::{over_rounds, proper};
 use super::{buffered, Operation, Vectors};
 use crate::answer::Answer;
-use crate::group::G;
 use crate::numbers::Numbers;
 use crate::round::{Figures, FOUR};
 use crate::share::write_share;
@@ -23,8 +22,8 @@ pub struct Case {
     pub member: u32,
     pub encrypted: u32,
     pub secret_key: u32,
-    nonce: u32,
-    size: usize,
+    pub nonce: u32,
+    pub size: usize,
 }
 
 impl Case {
@@ -35,7 +34,7 @@ impl Case {
             figures,
             dealer: 1 + numbers.below(figures.n),
             member: 1 + numbers.below(figures.n),
-            encrypted: group.power(G, numbers.below(group.q)),
+            encrypted: group.power(group.g, numbers.below(group.q)),
             secret_key: 1 + numbers.below(group.q - 1),
             nonce: numbers.below(group.q),
             size: 32,
@@ -93,7 +92,7 @@ fn every_key(vectors: &mut Vectors, numbers: &mut Numbers) {
 }
 
 /// Any figures, and Y, secret key and nonce at the ends of their range.
-fn varied(vectors: &mut Vectors, figures: Figures, numbers: &mut Numbers) {
+pub fn varied(vectors: &mut Vectors, figures: Figures, numbers: &mut Numbers) {
     let q = proper(figures).group.q;
     let any = Case::any(figures, numbers);
     any.add(vectors);

@@ -5,7 +5,7 @@ use native.Mathlib.Omega.{arith}
 use borrow.Author.Needs.{needs}
 use borrow.Author.Tests.{eq-eqb, ne-eqb, le-leb, lt-leb}
 use lib.Dec.{leb}
-use Rattle.board.specs.Search.{recordsIn}
+use Rattle.words.specs.Bytes.{recordsIn}
 use Rattle.board.specs.Board.{formChecks}
 use Rattle.board.proofs.form.form_refusal.Statement.{statement}
 use Rattle.board.proofs.form.form_refusal.Tie as tie

@@ -7,8 +7,8 @@ use native.Mathlib.Omega.{arith}
 use borrow.Author.Needs.{needs}
 use borrow.Author.Tests.{not-true, not-false}
 use Rattle.words.specs.Checks.{refusal}
+use Rattle.words.specs.Bytes.{recordsIn}
 use Rattle.records.specs.Layout.{isOfRound}
-use Rattle.board.specs.Search.{recordsIn}
 use Rattle.board.specs.Board.{isShaped, inOrder, recordChecks}
 use Rattle.board.proofs.Steps.{test-found, order-found, order-first, unshaped, foreign, unordered, record-passed, records-passed}
 use Rattle.board.proofs.form.records_refusal.Statement.{statement}

@@ -7,12 +7,12 @@ use native.Mathlib.Omega.{arith}
 use borrow.Author.Needs.{needs}
 use borrow.Author.Tests.{ltb-true}
 use Rattle.words.specs.Lists.{all, filled}
+use Rattle.words.specs.Bytes.{recordsIn, recordAt}
 use Rattle.words.specs.declared.Record.{Record}
 use Rattle.words.proofs.Lists.{filled-none}
 use Rattle.sharing.specs.Setting.{members}
-use Rattle.records.specs.Layout.{yOf, recordAt}
+use Rattle.records.specs.Layout.{yOf}
 use Rattle.records.proofs.Members.{members-exactly, members-next}
-use Rattle.board.specs.Search.{recordsIn}
 use Rattle.board.specs.Board.{keyPlace, hasKey, keyIn, keysIn}
 use Rattle.board.proofs.keys.board_keys.Statement.{statement}
 use Rattle.board.proofs.keys.board_keys.Tie as tie

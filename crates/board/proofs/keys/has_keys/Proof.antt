@@ -6,9 +6,9 @@ use borrow.Author.Needs.{needs}
 use borrow.Author.Tests.{lt-ltb, le-ltb}
 use lib.ListN.{drop}
 use Rattle.words.specs.Lists.{all}
+use Rattle.words.specs.Bytes.{recordsIn}
 use Rattle.sharing.specs.Setting.{members}
 use Rattle.records.proofs.Members.{tests-stop, tests-next, tests-end}
-use Rattle.board.specs.Search.{recordsIn}
 use Rattle.board.specs.Board.{keyPlace, hasKey}
 use Rattle.board.proofs.keys.has_keys.Statement.{statement}
 use Rattle.board.proofs.keys.has_keys.Tie as tie

@@ -16,14 +16,14 @@ use Rattle.board.proofs.Order.{sorted}
 use Rattle.board.proofs.lines.dealer_lines.Statement.{statement}
 use Rattle.board.proofs.lines.dealer_lines.Tie as tie
 
--- those of the round and of its setting
-abbrev allChecks : Round → ℕ → List ℕ → List Check
-allChecks R d b = roundChecks R ++ linesChecks (settingIn R) d b
+-- those of the table and the round, and of their setting
+abbrev allChecks : List ℕ → Round → ℕ → List ℕ → List Check
+allChecks T R d b = roundChecks T R ++ linesChecks (settingIn T R) d b
 
 -- every check is met where the answer passes
-passed : (R : Round) (d : ℕ) (b : List ℕ) {a : CheckAnswer} → checkOutcomeOf a ≡ linesOutcome R d b → a ≡ Passed → Met (allChecks R d b)
+passed : (T : List ℕ) (R : Round) (d : ℕ) (b : List ℕ) {a : CheckAnswer} → checkOutcomeOf a ≡ linesOutcome T R d b → a ≡ Passed → Met (allChecks T R d b)
 unfolding linesOutcome judged
-passed R d b e f = value-met (allChecks R d b) tt tt (sym e ∙ ap checkOutcomeOf f) .0
+passed T R d b e f = value-met (allChecks T R d b) tt tt (sym e ∙ ap checkOutcomeOf f) .0
 
 lines-check-requires : tie.Need-lines-check-requires
 lines-check-requires c κs = search needs
@@ -47,17 +47,17 @@ lines-of-requires : tie.Need-lines-of-requires
 unfolding linesChecks
 lines-of-requires c κs =
     let l = c .before .before in
-    let a = l .before .before .args in
-    let m = passed (a .rd) (a .d) (a .b .now) (l .lines-check .ensures) (c .enum-told2 .given .1) in
-    sorted (settingIn (a .rd)) (a .b .now) (met-both (roundChecks (a .rd)) (linesChecks (settingIn (a .rd)) (a .d) (a .b .now)) m .1 .1)
+    let a = l .before .before .before .args in
+    let m = passed (a .table .now) (a .rd) (a .d) (a .b .now) (l .lines-check .ensures) (c .enum-told2 .given .1) in
+    sorted (settingIn (a .table .now) (a .rd)) (a .b .now) (met-both (roundChecks (a .table .now) (a .rd)) (linesChecks (settingIn (a .table .now) (a .rd)) (a .d) (a .b .now)) m .1 .1)
 
 returns : tie.Need-returns
 unfolding linesOutcome linesPart linesAt judged judgedElse
 returns c =
     let l = c .before .before .before in
-    let a = l .before .before .args in
+    let a = l .before .before .before .args in
     let b = a .b .now in
-    let cs = allChecks (a .rd) (a .d) b in
+    let cs = allChecks (a .table .now) (a .rd) (a .d) b in
     let u = refused-exactly (Unit {0}) cs tt _ .0 (sym (l .lines-check .ensures) ∙ ap checkOutcomeOf (c .before .enum-told .given .1)) in
     (sym (if-unmet (linesOf b (a .d)) [] cs _ u), ap (λ (k : ℕ). behind k (a .b .ptr)) (sym (if-unmet (32 * linesStart b (a .d)) 0 cs _ u)))
 
@@ -65,10 +65,10 @@ returns-2 : tie.Need-returns-2
 unfolding linesPart linesAt judgedElse
 returns-2 c =
     let l = c .before .before .before in
-    let a = l .before .before .args in
+    let a = l .before .before .before .args in
     let b = a .b .now in
-    let cs = allChecks (a .rd) (a .d) b in
-    let m = passed (a .rd) (a .d) b (l .lines-check .ensures) (c .before .enum-told2 .given .1) in
+    let cs = allChecks (a .table .now) (a .rd) (a .d) b in
+    let m = passed (a .table .now) (a .rd) (a .d) b (l .lines-check .ensures) (c .before .enum-told2 .given .1) in
     let f = c .lines-of .ensures in
     (f .0 ∙ sym (if-met (linesOf b (a .d)) [] cs m), f .1 ∙ ap (λ (k : ℕ). behind k (a .b .ptr)) (sym (if-met (32 * linesStart b (a .d)) 0 cs m)))
 

@@ -25,23 +25,23 @@ returns : tie.Need-returns
 unfolding linesOutcome
 returns c =
     let g = c .before .before .before in
-    let a = g .before .before .before .before .args in
+    let a = g .before .before .before .before .before .args in
     last-refused (linesChecks (g .s .given .0 .0) (a .d) (a .b .now)) (c .before .lines-refusal .ensures) (c .if1 .taken) tt
-    ∙ judged-value _ _ _ (g .before .before .setting-of .ensures) (g .s .given .1)
+    ∙ judged-value _ _ _ _ (g .before .before .setting-of .ensures) (g .s .given .1)
 
 returns-2 : tie.Need-returns-2
 unfolding linesOutcome
-returns-2 c = judged-refused _ _ _ (c .before .before .before .setting-of .ensures) (c .before .k .given .1)
+returns-2 c = judged-refused _ _ _ _ (c .before .before .before .setting-of .ensures) (c .before .k .given .1)
 
 returns-3 : tie.Need-returns-3
 unfolding linesOutcome
 returns-3 c =
     let g = c .before .before .before in
-    let a = g .before .before .before .before .args in
+    let a = g .before .before .before .before .before .args in
     let S = g .s .given .0 .0 in
     let m = lines-met S (a .b .now) (a .d) (sym (c .before .lines-refusal .ensures) ∙ c .if1 .left) in
     sym (value-exactly (Unit {0}) (linesChecks S (a .d) (a .b .now)) tt .1 m)
-    ∙ judged-value _ _ _ (g .before .before .setting-of .ensures) (g .s .given .1)
+    ∙ judged-value _ _ _ _ (g .before .before .setting-of .ensures) (g .s .given .1)
 
 pub lines-check-spec : {M : Type 1} → statement M
 lines-check-spec =

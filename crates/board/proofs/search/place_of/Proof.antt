@@ -2,7 +2,7 @@
 use Prim.Native.Nat.{_+_, _-_, _≤_, _/_}
 use native.Mathlib.Omega.{arith}
 use borrow.Author.Needs.{needs}
-use Rattle.board.specs.Search.{recordsIn}
+use Rattle.words.specs.Bytes.{recordsIn}
 use Rattle.board.specs.Board.{placeOf}
 use Rattle.board.proofs.Places.{place-within, place-above, place-upto}
 use Rattle.board.proofs.search.place_of.Statement.{statement}

@@ -6,8 +6,8 @@ use Prim.Native.Nat.{ℕ}
 use native.Mathlib.Omega.{arith}
 use borrow.Author.Needs.{needs}
 use borrow.Author.Tests.{not-true, not-false}
+use Rattle.words.specs.Bytes.{recordAt}
 use Rattle.words.specs.declared.Record.{Record}
-use Rattle.records.specs.Layout.{recordAt}
 use Rattle.board.specs.Board.{isAt, placeOf}
 use Rattle.board.proofs.Places.{only-record, no-record}
 use Rattle.board.proofs.search.record_by.Statement.{statement}

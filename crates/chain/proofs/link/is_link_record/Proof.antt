@@ -1,7 +1,7 @@
 -- `is_link_record` meets its contract: the layout that is compared is the one that was made.
 use mathlib.Core.Path.{ap, _∙_}
 use borrow.Author.Needs.{needs}
-use Rattle.records.specs.Layout.{agrees}
+use Rattle.words.specs.Bytes.{agrees}
 use Rattle.chain.proofs.link.is_link_record.Statement.{statement}
 use Rattle.chain.proofs.link.is_link_record.Tie as tie
 

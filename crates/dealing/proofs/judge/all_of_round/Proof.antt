@@ -7,11 +7,12 @@ use native.Mathlib.Omega.{arith}
 use borrow.Author.Needs.{needs}
 use lib.ListN.{drop}
 use Rattle.words.specs.Lists.{all}
+use Rattle.words.specs.Bytes.{recordAt}
 use Rattle.words.specs.declared.Record.{Record}
 use Rattle.sharing.specs.Setting.{members}
-use Rattle.records.specs.Layout.{isOfRound, recordAt}
+use Rattle.records.specs.Layout.{isOfRound}
 use Rattle.dealing.specs.Dealing.{isLineOfRound}
-use Rattle.records.proofs.Layouts.{record-of}
+use Rattle.records.proofs.Posted.{record-of}
 use Rattle.records.proofs.Members.{tests-stop, tests-next, tests-end}
 use Rattle.words.proofs.Tests.{passed, failed}
 use Rattle.dealing.proofs.judge.all_of_round.Statement.{statement}

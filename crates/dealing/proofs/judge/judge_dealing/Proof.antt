@@ -16,17 +16,17 @@ enum-known-s : tie.Need-enum-known-s
 enum-known-s c = search needs
 
 judge-dealing-in-requires : tie.Need-judge-dealing-in-requires
-judge-dealing-in-requires c κs = setting-proper _ (c .before .before .before .setting-of .ensures) (c .before .s .given .1)
+judge-dealing-in-requires c κs = setting-proper _ _ (c .before .before .before .setting-of .ensures) (c .before .s .given .1)
 
 returns : tie.Need-returns
 unfolding judgeDealingOutcome
-returns c = judged-refused _ _ _ (c .before .before .before .setting-of .ensures) (c .before .k .given .1)
+returns c = judged-refused _ _ _ _ (c .before .before .before .setting-of .ensures) (c .before .k .given .1)
 
 returns-2 : tie.Need-returns-2
 unfolding judgeDealingOutcome judgeDealingIn
 returns-2 c =
     let g = c .before .before in
-    c .judge-dealing-in .ensures ∙ judged-value _ _ _ (g .before .before .setting-of .ensures) (g .s .given .1)
+    c .judge-dealing-in .ensures ∙ judged-value _ _ _ _ (g .before .before .setting-of .ensures) (g .s .given .1)
 
 pub judge-dealing-spec : {M : Type 1} → statement M
 judge-dealing-spec =

@@ -18,14 +18,14 @@ enum-known-s c = search needs
 write-dealing-in-requires : tie.Need-write-dealing-in-requires
 write-dealing-in-requires c κs =
     let s = c .before .before in
-    setting-proper _ (s .before .before .setting-of .ensures) (s .s .given .1)
+    setting-proper _ _ (s .before .before .setting-of .ensures) (s .s .given .1)
 
 returns : tie.Need-returns
 unfolding writeDealingOutcome lentDealing
 returns c =
     let k = c .before in
     let e = k .before .before .setting-of .ensures in
-    (judged-refused _ _ _ e (k .k .given .1), judged-kept _ _ _ e (k .k .given .1) _)
+    (judged-refused _ _ _ _ e (k .k .given .1), judged-kept _ _ _ _ e (k .k .given .1) _)
 
 same-length : tie.Need-same-length
 same-length c = search needs
@@ -36,7 +36,7 @@ returns-2 c =
     let w = c .before .before in
     let s = w .before .before .before in
     let e = s .before .before .setting-of .ensures in
-    (w .write-dealing-in .ensures .0 ∙ judged-value _ _ _ e (s .s .given .1), w .write-dealing-in .ensures .1 ∙ judged-lent _ _ _ e (s .s .given .1) _)
+    (w .write-dealing-in .ensures .0 ∙ judged-value _ _ _ _ e (s .s .given .1), w .write-dealing-in .ensures .1 ∙ judged-lent _ _ _ _ e (s .s .given .1) _)
 
 pub write-dealing-spec : {M : Type 1} → statement M
 write-dealing-spec =

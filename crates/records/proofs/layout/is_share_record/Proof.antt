@@ -1,7 +1,7 @@
 -- `is_share_record` meets its contract: the layout that is compared is the one that was made.
 use mathlib.Core.Path.{ap, _∙_}
 use borrow.Author.Needs.{needs}
-use Rattle.records.specs.Layout.{agrees}
+use Rattle.words.specs.Bytes.{agrees}
 use Rattle.records.proofs.layout.is_share_record.Statement.{statement}
 use Rattle.records.proofs.layout.is_share_record.Tie as tie
 

@@ -16,17 +16,17 @@ enum-known-s : tie.Need-enum-known-s
 enum-known-s c = search needs
 
 judge-in-requires : tie.Need-judge-in-requires
-judge-in-requires c κs = setting-proper _ (c .before .before .before .setting-of .ensures) (c .before .s .given .1)
+judge-in-requires c κs = setting-proper _ _ (c .before .before .before .setting-of .ensures) (c .before .s .given .1)
 
 returns : tie.Need-returns
 unfolding judgeShareOutcome
-returns c = judged-refused _ _ _ (c .before .before .before .setting-of .ensures) (c .before .k .given .1)
+returns c = judged-refused _ _ _ _ (c .before .before .before .setting-of .ensures) (c .before .k .given .1)
 
 returns-2 : tie.Need-returns-2
 unfolding judgeShareOutcome judgeShareIn
 returns-2 c =
     let g = c .before .before in
-    c .judge-in .ensures ∙ judged-value _ _ _ (g .before .before .setting-of .ensures) (g .s .given .1)
+    c .judge-in .ensures ∙ judged-value _ _ _ _ (g .before .before .setting-of .ensures) (g .s .given .1)
 
 pub judge-spec : {M : Type 1} → statement M
 judge-spec =

@@ -14,8 +14,8 @@ judge-requires c κs = search needs
 
 returns : tie.Need-returns
 returns c =
-    let a = c .before .before .before .args in
-    c .judge .ensures ∙ ap (λ (F : ShareForm). judgeShareOutcome (a .rd) F (a .i) (a .y .0) (a .encrypted .0) (a .b .now)) (c .before .added-form .ensures)
+    let a = c .before .before .before .before .args in
+    c .judge .ensures ∙ ap (λ (F : ShareForm). judgeShareOutcome (a .table .now) (a .rd) F (a .i) (a .y .0) (a .encrypted .0) (a .b .now)) (c .before .added-form .ensures)
 
 pub judge-added-spec : {M : Type 1} → statement M
 judge-added-spec = tie.close (tie.spec added-form-requires judge-requires returns)

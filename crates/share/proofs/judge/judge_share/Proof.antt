@@ -14,8 +14,8 @@ judge-requires c κs = search needs
 
 returns : tie.Need-returns
 returns c =
-    let a = c .before .before .before .args in
-    c .judge .ensures ∙ ap (λ (F : ShareForm). judgeShareOutcome (a .rd) F (a .i) (a .y .0) (a .encrypted .0) (a .b .now)) (c .before .opened-form .ensures)
+    let a = c .before .before .before .before .args in
+    c .judge .ensures ∙ ap (λ (F : ShareForm). judgeShareOutcome (a .table .now) (a .rd) F (a .i) (a .y .0) (a .encrypted .0) (a .b .now)) (c .before .opened-form .ensures)
 
 pub judge-share-spec : {M : Type 1} → statement M
 judge-share-spec = tie.close (tie.spec opened-form-requires judge-requires returns)

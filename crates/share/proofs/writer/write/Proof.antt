@@ -16,13 +16,13 @@ enum-known-s : tie.Need-enum-known-s
 enum-known-s c = search needs
 
 write-in-requires : tie.Need-write-in-requires
-write-in-requires c κs = setting-proper _ (c .before .before .before .before .setting-of .ensures) (c .before .before .s .given .1)
+write-in-requires c κs = setting-proper _ _ (c .before .before .before .before .setting-of .ensures) (c .before .before .s .given .1)
 
 returns : tie.Need-returns
 unfolding writeShareOutcome lentAfterShare
 returns c =
     let e = c .before .before .before .setting-of .ensures in
-    (judged-refused _ _ _ e (c .before .k .given .1), judged-kept _ _ _ e (c .before .k .given .1) _)
+    (judged-refused _ _ _ _ e (c .before .k .given .1), judged-kept _ _ _ _ e (c .before .k .given .1) _)
 
 same-length : tie.Need-same-length
 same-length c = search needs
@@ -33,7 +33,7 @@ returns-2 c =
     let w = c .before .before in
     let g = w .before .before .before in
     let e = g .before .before .setting-of .ensures in
-    (w .write-in .ensures .0 ∙ judged-value _ _ _ e (g .s .given .1), w .write-in .ensures .1 ∙ judged-lent _ _ _ e (g .s .given .1) _)
+    (w .write-in .ensures .0 ∙ judged-value _ _ _ _ e (g .s .given .1), w .write-in .ensures .1 ∙ judged-lent _ _ _ _ e (g .s .given .1) _)
 
 pub write-spec : {M : Type 1} → statement M
 write-spec =

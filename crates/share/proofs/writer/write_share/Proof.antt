@@ -20,9 +20,9 @@ returns : tie.Need-returns
 returns c =
     let w = c .before .before in
     let f = w .before .before in
-    let a = f .before .before .args in (
-      w .write .ensures .0 ∙ ap (λ (F : ShareForm). writeShareOutcome (a .rd) F (a .i) (a .encrypted .0) (a .x .0) (a .w .0) (length (a .out .now))) (f .opened-form .ensures),
-      w .write .ensures .1 ∙ ap (λ (F : ShareForm). lentAfterShare (a .rd) F (a .i) (a .encrypted .0) (a .x .0) (a .w .0) (a .out .now)) (f .opened-form .ensures),
+    let a = f .before .before .before .args in (
+      w .write .ensures .0 ∙ ap (λ (F : ShareForm). writeShareOutcome (a .table .now) (a .rd) F (a .i) (a .encrypted .0) (a .x .0) (a .w .0) (length (a .out .now))) (f .opened-form .ensures),
+      w .write .ensures .1 ∙ ap (λ (F : ShareForm). lentAfterShare (a .table .now) (a .rd) F (a .i) (a .encrypted .0) (a .x .0) (a .w .0) (a .out .now)) (f .opened-form .ensures),
     )
 
 pub write-share-spec : {M : Type 1} → statement M

@@ -1,54 +1,31 @@
--- `settings::setting_of` meets its contract: the look-up tells the group or that there is none, and then the range decides.
+-- `settings::setting_of` meets its contract: where the table is refused its number is handed on, and else the round's figures decide.
+use mathlib.Core.Path.{_∙_}
 use borrow.Author.Needs.{needs}
-use Rattle.words.proofs.Tests.{passed, failed}
-use Rattle.group.proofs.Answers.{group-value, group-refused}
+use Rattle.words.proofs.Stages.{stage-refused}
+use Rattle.group.specs.Table.{tableChecks}
+use Rattle.group.proofs.Turns.{table-met}
 use Rattle.sharing.specs.Setting.{roundChecks, settingOutcome}
+use Rattle.sharing.proofs.Rounds.{figures-setting}
 use Rattle.sharing.proofs.settings.setting_of.Statement.{statement}
 use Rattle.sharing.proofs.settings.setting_of.Tie as tie
 
-group-of-requires : tie.Need-group-of-requires
-group-of-requires c κs = search needs
-
-enum-known-gr : tie.Need-enum-known-gr
-enum-known-gr c = search needs
-
-enum-told : tie.Need-enum-told
-enum-told c = search needs
+table-refusal-requires : tie.Need-table-refusal-requires
+table-refusal-requires c κs = search needs
 
 returns : tie.Need-returns
 unfolding settingOutcome roundChecks
-returns c = simp (group-refused _ (c .before .before .group-of .ensures) (c .enum-told .given .1))
+returns c =
+    let t = c .before in
+    stage-refused (tableChecks (t .before .before .args .table .now)) (t .table-refusal .ensures) _ (c .if1 .taken) _
 
-in-range-requires : tie.Need-in-range-requires
-in-range-requires c κs = search needs
+setting-in-requires : tie.Need-setting-in-requires
+setting-in-requires c κs = search needs
 
 returns-2 : tie.Need-returns-2
-unfolding settingOutcome roundChecks
 returns-2 c =
-    let d = c .before .before .before in
-    let g = group-value _ (d .before .before .group-of .ensures) (d .gr .given .1) in
-    simp (g .0, g .1, failed (c .before .in-range .ensures) (c .if1 .taken))
-
-returns-3 : tie.Need-returns-3
-unfolding settingOutcome roundChecks
-returns-3 c =
-    let r = c .before in
-    let d = r .before .before .before in
-    let g = group-value _ (d .before .before .group-of .ensures) (d .gr .given .1) in
-    simp (g .0, g .1, passed (r .before .in-range .ensures) (r .if1 .left), c .takes-whole .ensures)
-
-takes-whole-requires : tie.Need-takes-whole-requires
-takes-whole-requires c κs = search needs
+    let t = c .before .before in
+    let a = t .before .before .args in
+    c .setting-in .ensures ∙ figures-setting (a .table .now) (a .rd) (table-met (a .table .now) (t .table-refusal .ensures) (c .before .if1 .left))
 
 pub setting-of-spec : {M : Type 1} → statement M
-setting-of-spec =
-    tie.close
-    (tie.spec
-    group-of-requires
-    enum-known-gr
-    enum-told
-    returns
-    in-range-requires
-    returns-2
-    takes-whole-requires
-    returns-3)
+setting-of-spec = tie.close (tie.spec table-refusal-requires returns setting-in-requires returns-2)

@@ -4,11 +4,12 @@ use Prim.Native.Nat.{_+_, _-_, _≤_}
 use native.Mathlib.Omega.{arith}
 use borrow.Author.Needs.{needs}
 use Rattle.words.specs.Lists.{map, filled}
+use Rattle.words.specs.Bytes.{recordAt}
 use Rattle.words.specs.declared.Record.{Record}
 use Rattle.words.proofs.Lists.{filled-none}
 use Rattle.field.specs.Residue.{mul}
 use Rattle.sharing.specs.Setting.{members}
-use Rattle.records.specs.Layout.{YOf, entry, recordAt}
+use Rattle.records.specs.Layout.{YOf, entry}
 use Rattle.records.proofs.Members.{members-next, entry-at}
 use Rattle.dealing.specs.Dealing.{YIn}
 use Rattle.verdicts.proofs.added.times_lines.Statement.{statement}

@@ -2,7 +2,8 @@
 use mathlib.Core.Path.{ap, _∙_}
 use native.Mathlib.Omega.{arith}
 use borrow.Author.Needs.{needs}
-use Rattle.records.specs.Layout.{entry, recordAt}
+use Rattle.words.specs.Bytes.{recordAt}
+use Rattle.records.specs.Layout.{entry}
 use Rattle.verdicts.proofs.ShareAnswers.{shares-sorted, share-member, share-dealer, answered}
 use Rattle.verdicts.proofs.shares.accepted_share.Statement.{statement}
 use Rattle.verdicts.proofs.shares.accepted_share.Tie as tie

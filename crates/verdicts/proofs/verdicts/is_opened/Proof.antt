@@ -2,9 +2,10 @@
 use mathlib.Core.Path.{ap, _∙_}
 use native.Mathlib.Omega.{arith}
 use borrow.Author.Needs.{needs}
+use Rattle.words.specs.Bytes.{recordAt}
 use Rattle.words.specs.declared.Record.{Record}
 use Rattle.words.proofs.Tests.{passed, failed}
-use Rattle.records.specs.Layout.{uOf, recordAt}
+use Rattle.records.specs.Layout.{uOf}
 use Rattle.verdicts.proofs.Secrets.{lines-sorted, commitments-count, opened-none, opened-high, opened-told}
 use Rattle.verdicts.proofs.verdicts.is_opened.Statement.{statement}
 use Rattle.verdicts.proofs.verdicts.is_opened.Tie as tie

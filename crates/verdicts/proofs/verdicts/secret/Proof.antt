@@ -4,8 +4,9 @@ use native.Mathlib.Omega.{arith}
 use borrow.Author.Needs.{needs}
 use borrow.Author.Tests.{not-true, not-false}
 use lib.ListN.{length, take}
+use Rattle.words.specs.Bytes.{recordAt}
 use Rattle.words.specs.declared.Record.{Record}
-use Rattle.records.specs.Layout.{uOf, recordAt}
+use Rattle.records.specs.Layout.{uOf}
 use Rattle.verdicts.specs.Shares.{judges}
 use Rattle.verdicts.specs.Verdict.{commitmentsOf, encryptedOf}
 use Rattle.verdicts.proofs.Secrets.{lines-sorted, full-taken, commitments-are, encrypted-are, commitments-count, encrypted-count, opening-inside, secret-shares, secret-opened}

@@ -3,7 +3,6 @@
 use super::{Case, DEALER, MEMBER};
 use crate::answer::Answer;
 use crate::dealing::write_dealing;
-use crate::group::{G, H};
 use crate::numbers::Numbers;
 use crate::record::SIZE;
 use crate::round::{Figures, Round};
@@ -56,7 +55,7 @@ fn judge_dealing(figures: Figures, numbers: &mut Numbers) -> Case {
 /// Y, the secret key and the nonce of a share.
 fn share(round: &Round, numbers: &mut Numbers) -> [u32; 3] {
     let q = round.group.q;
-    let encrypted = round.group.power(G, numbers.below(q));
+    let encrypted = round.group.power(round.group.g, numbers.below(q));
     [encrypted, 1 + numbers.below(q - 1), numbers.below(q)]
 }
 
@@ -78,7 +77,7 @@ fn judge_share(figures: Figures, numbers: &mut Numbers) -> Case {
         nonce,
         &mut record,
     ));
-    let figures = bytes(&[round.group.power(H, x), encrypted]);
+    let figures = bytes(&[round.group.power(round.group.h, x), encrypted]);
     let arguments = [DEALER, MEMBER, SIZE as u32];
     Case::of(10, &arguments, [figures, record].concat())
 }
@@ -101,7 +100,7 @@ fn judge_added(figures: Figures, numbers: &mut Numbers) -> Case {
         nonce,
         &mut record,
     ));
-    let figures = bytes(&[round.group.power(H, x), encrypted]);
+    let figures = bytes(&[round.group.power(round.group.h, x), encrypted]);
     Case::of(21, &[0, MEMBER, SIZE as u32], [figures, record].concat())
 }
 

@@ -5,7 +5,7 @@ use super::super::sample::proper;
 use super::super::Vectors;
 use super::parts::replaced;
 use super::playing::{end, Playing};
-use crate::group::{Group, G};
+use crate::group::Group;
 use crate::numbers::Numbers;
 use crate::posting::Members;
 use crate::record::{Record, ADDED, LINE};
@@ -54,7 +54,7 @@ fn add_bad(vectors: &mut Vectors, playing: &Playing, board: &Posted, bad: &[u32]
 fn changes(group: &Group) -> [Change<'_>; 12] {
     let Group { p, q, .. } = *group;
     [
-        Box::new(|r| r[3] = group.product(r[3], G)),
+        Box::new(|r| r[3] = group.product(r[3], group.g)),
         Box::new(move |r| r[3] = p - r[3]),
         Box::new(|r| r[3] = 0),
         Box::new(move |r| r[3] = p),
@@ -155,11 +155,13 @@ fn products(playing: &Playing) -> Vec<u32> {
     playing.members.products(&lines)
 }
 
-/// Each for 4 times the right Y.
+/// Each for g times the right Y.
 fn for_other_products(playing: &Playing, numbers: &mut Numbers) -> Vec<Record> {
     let members = &playing.members;
     let group = &members.round.group;
-    let others = products(playing).into_iter().map(|y| group.product(y, G));
+    let others = products(playing)
+        .into_iter()
+        .map(|y| group.product(y, group.g));
     let shares = (1..)
         .zip(others)
         .map(|(i, y)| members.added(i, y, numbers.below(group.q)));

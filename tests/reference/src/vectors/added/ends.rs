@@ -4,9 +4,9 @@ use super::super::faults::InRound;
 use super::super::sample::{end_values, proper};
 use super::super::Vectors;
 use super::{judge, write};
-use crate::group::{G, H};
 use crate::numbers::Numbers;
 use crate::round::Figures;
+use crate::table::G;
 
 /// Groups, n and t at the ends of their ranges and beside, and what they are refused by.
 const ROUNDS: [(u32, u32, u32, Option<u32>); 21] = [
@@ -97,7 +97,7 @@ fn written(vectors: &mut Vectors, any: &write::Case) {
         add(&|c| c.size = size, (size != 32).then_some(3));
     }
     let group = proper(any.figures).group;
-    for figure in end_values(&group).into_iter().chain([G, H]) {
+    for figure in end_values(&group).into_iter().chain([group.g, group.h]) {
         let refused = (!group.is_element(figure)).then_some(6);
         add(&|c| c.encrypted = figure, refused);
     }

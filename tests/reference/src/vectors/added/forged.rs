@@ -6,7 +6,6 @@ use super::super::sample::proper;
 use super::super::Vectors;
 use super::playing::{by, end, stuck, Playing};
 use crate::forge;
-use crate::group::G;
 use crate::numbers::Numbers;
 use crate::record::ADDED;
 use crate::round::FOUR;
@@ -54,7 +53,7 @@ fn every_pair(vectors: &mut Vectors, board: &Posted, member: u32) -> BTreeSet<bo
         for response in 0..group.q {
             let mut board = board.clone();
             let k = board.at(ADDED, 0, member);
-            board.change(k, 3, |opened| group.product(opened, G));
+            board.change(k, 3, |opened| group.product(opened, group.g));
             board.change(k, 4, |_| challenge);
             board.change(k, 5, |_| response);
             let text = board.add(vectors);

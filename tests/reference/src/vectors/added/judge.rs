@@ -5,7 +5,6 @@ use super::super::faults::{in_round, Fault, InRound};
 use super::super::sample::{fours, other_element, other_exponent, proper, rounds};
 use super::super::{bytes, Operation, Vectors};
 use super::write;
-use crate::group::{G, H};
 use crate::numbers::Numbers;
 use crate::record::{self, ADDED, SIZE};
 use crate::round::{Figures, FOUR};
@@ -42,7 +41,7 @@ impl Case {
         Case {
             figures: written.figures,
             member: written.member,
-            key: group.power(H, written.secret_key),
+            key: group.power(group.h, written.secret_key),
             encrypted: written.encrypted,
             record,
         }
@@ -97,7 +96,7 @@ pub fn add(vectors: &mut Vectors, numbers: &mut Numbers) {
 fn forged(vectors: &mut Vectors, numbers: &mut Numbers) {
     let mut case = Case::any(FOUR, numbers);
     let group = proper(FOUR).group;
-    case.change(3, |opened| group.product(opened, G));
+    case.change(3, |opened| group.product(opened, group.g));
     for challenge in 0..group.q {
         for response in 0..group.q {
             case.change(4, |_| challenge);
@@ -108,7 +107,7 @@ fn forged(vectors: &mut Vectors, numbers: &mut Numbers) {
 }
 
 /// Any share, and that of Y 1, which has S 1.
-fn accepted(vectors: &mut Vectors, figures: Figures, numbers: &mut Numbers) {
+pub fn accepted(vectors: &mut Vectors, figures: Figures, numbers: &mut Numbers) {
     assert_eq!(Case::any(figures, numbers).add(vectors), None);
     let any = write::Case::any(figures, numbers);
     let one = write::Case {
@@ -122,14 +121,17 @@ fn accepted(vectors: &mut Vectors, figures: Figures, numbers: &mut Numbers) {
 
 /// Each word changed: to the next number, to an element or exponent if it was one, to its negative and to the largest
 /// word.
-fn words(vectors: &mut Vectors, figures: Figures, numbers: &mut Numbers) {
+pub fn words(vectors: &mut Vectors, figures: Figures, numbers: &mut Numbers) {
     let group = proper(figures).group;
     let right = Case::any(figures, numbers);
     for word in 0..8 {
         let changes: [&dyn Fn(u32) -> u32; 4] = match word {
-            3 => [&|v| group.product(v, G), &|v| group.p - v, &|_| 1, &|_| {
-                u32::MAX
-            }],
+            3 => [
+                &|v| group.product(v, group.g),
+                &|v| group.p - v,
+                &|_| 1,
+                &|_| u32::MAX,
+            ],
             4 | 5 => [&|e| (e + 1) % group.q, &|e| e + group.q, &|_| 0, &|_| {
                 u32::MAX
             }],
@@ -168,12 +170,12 @@ fn elsewhere(vectors: &mut Vectors, figures: Figures, numbers: &mut Numbers) {
     case.change(2, other);
     case.add(vectors);
     let another = Case::any(figures, numbers);
-    for figure in [G, group.product(right.key, G), another.key, 1] {
+    for figure in [group.g, group.product(right.key, group.g), another.key, 1] {
         let mut case = right.clone();
         case.key = figure;
         case.add(vectors);
     }
-    for figure in [G, another.encrypted, right.key, 1] {
+    for figure in [group.g, another.encrypted, right.key, 1] {
         let mut case = right.clone();
         case.encrypted = figure;
         case.add(vectors);

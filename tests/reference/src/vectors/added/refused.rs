@@ -6,7 +6,6 @@ use super::super::boards::{dealer_refused_by, refused_by};
 use super::super::sample::{other_element, other_exponent};
 use super::super::Vectors;
 use super::playing::{by, end, stuck, Playing};
-use crate::group::H;
 use crate::numbers::Numbers;
 use crate::record::{LINE, OPENING};
 use crate::round::Figures;
@@ -76,7 +75,7 @@ fn draw_of(playing: &Playing, dealers: &[u32]) -> String {
     for &dealer in dealers {
         let opening = playing.all.at(OPENING, dealer, 0);
         let s = playing.all.records[opening][3];
-        draw = group.product(draw, group.power(H, s));
+        draw = group.product(draw, group.power(group.h, s));
     }
     format!("draw {draw}")
 }

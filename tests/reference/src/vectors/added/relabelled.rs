@@ -8,7 +8,6 @@ use super::super::sample::proper;
 use super::super::Vectors;
 use super::judge::Case;
 use crate::equality::response;
-use crate::group::H;
 use crate::message::{self, share_challenge};
 use crate::numbers::Numbers;
 use crate::record::{self, ADDED, SHARE};
@@ -88,10 +87,10 @@ fn tagged(vectors: &mut Vectors, figures: Figures, numbers: &mut Numbers) {
     let round = proper(figures);
     let q = round.group.q;
     let x = 1 + numbers.below(q - 1);
-    let key = round.group.power(H, x);
+    let key = round.group.power(round.group.h, x);
     let (exponent, nonce) = (numbers.below(q), numbers.below(q));
-    let [encrypted, opened] = [key, H].map(|base| round.group.power(base, exponent));
-    let [a1, a2] = [H, opened].map(|base| round.group.power(base, nonce));
+    let [encrypted, opened] = [key, round.group.h].map(|base| round.group.power(base, exponent));
+    let [a1, a2] = [round.group.h, opened].map(|base| round.group.power(base, nonce));
     for (tag, dealer) in [
         (message::ADDED, 0),
         (message::OPENED, 0),

@@ -4,7 +4,6 @@ use super::super::boards::posted::{is_added, is_opening, is_share};
 use super::super::sample::proper;
 use super::super::Vectors;
 use super::playing::Playing;
-use crate::group::G;
 use crate::numbers::Numbers;
 use crate::record::Record;
 use crate::round::Figures;
@@ -27,7 +26,7 @@ fn of_round(vectors: &mut Vectors, figures: Figures, numbers: &mut Numbers) {
     let playing = Playing::loaded(vectors, figures, numbers);
     let changes: [&dyn Fn(&mut Record); 6] = [
         &|_| {},
-        &|r| r[3] = group.product(r[3], G),
+        &|r| r[3] = group.product(r[3], group.g),
         &|r| r[3] = 0,
         &|r| r[4] = (r[4] + 1) % group.q,
         &|r| r[5] = group.q,

@@ -6,7 +6,6 @@ use super::super::faults::{in_round, Fault, InRound};
 use super::super::sample::{over_rounds, proper};
 use super::super::{buffered, Operation, Vectors};
 use crate::answer::Answer;
-use crate::group::G;
 use crate::numbers::Numbers;
 use crate::round::{Figures, FOUR};
 use crate::share::added::write_added;
@@ -33,7 +32,7 @@ impl Case {
         Case {
             figures,
             member: 1 + numbers.below(figures.n),
-            encrypted: group.power(G, numbers.below(group.q)),
+            encrypted: group.power(group.g, numbers.below(group.q)),
             secret_key: 1 + numbers.below(group.q - 1),
             nonce: numbers.below(group.q),
             size: 32,
@@ -98,7 +97,7 @@ fn every_figure(vectors: &mut Vectors, numbers: &mut Numbers) {
 }
 
 /// Any figures, the first member and the last, and Y 1.
-fn varied(vectors: &mut Vectors, figures: Figures, numbers: &mut Numbers) {
+pub fn varied(vectors: &mut Vectors, figures: Figures, numbers: &mut Numbers) {
     let any = Case::any(figures, numbers);
     for member in [1, any.member, figures.n] {
         assert_eq!(Case { member, ..any }.add(vectors), None);

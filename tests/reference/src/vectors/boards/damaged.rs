@@ -3,7 +3,7 @@
 use super::super::sample::proper;
 use super::super::Vectors;
 use super::posted::{is_opening, is_share, Posted};
-use crate::group::{Group, G};
+use crate::group::Group;
 use crate::record::{KEY, LINE, OPENING, SHARE};
 use crate::round::Figures;
 
@@ -66,7 +66,7 @@ fn changes(group: &Group, kind: u32, word: usize) -> [Change<'_>; 4] {
     let last: Change = Box::new(|_| u32::MAX);
     match (kind, word) {
         (KEY | LINE | SHARE, 3) | (LINE, 4) => [
-            Box::new(|v| group.product(v, G)),
+            Box::new(|v| group.product(v, group.g)),
             Box::new(|v| group.p - v),
             Box::new(|_| 1),
             last,

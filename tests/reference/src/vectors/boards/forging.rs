@@ -5,7 +5,6 @@ use super::super::Vectors;
 use super::posted::{any_dealing, any_members, is_line, is_opening, is_share, Posted};
 use super::{add_files, refused_by};
 use crate::forge;
-use crate::group::G;
 use crate::numbers::Numbers;
 use crate::record::{Record, KEY, LINE, OPENING, SHARE};
 use crate::round::{Figures, FOUR};
@@ -62,7 +61,7 @@ pub fn shares(vectors: &mut Vectors, figures: Figures, all: &Posted) {
     let group = proper(figures).group;
     let right = all.without(is_opening);
     let changes: [(usize, &dyn Fn(u32) -> u32); 9] = [
-        (3, &|opened| group.product(opened, G)),
+        (3, &|opened| group.product(opened, group.g)),
         (3, &|opened| group.p - opened),
         (3, &|_| 1),
         (3, &|_| 0),
@@ -135,7 +134,7 @@ fn copy(board: &mut Posted, from: (u32, u32, u32), to: (u32, u32, u32)) {
 fn keys(vectors: &mut Vectors, figures: Figures, all: &Posted) {
     let group = proper(figures).group;
     let mut board = all.clone();
-    board.change(all.at(KEY, 0, 5), 3, |y| group.product(y, G));
+    board.change(all.at(KEY, 0, 5), 3, |y| group.product(y, group.g));
     board.add(vectors);
     let mut board = all.clone();
     copy(&mut board, (KEY, 0, 2), (KEY, 0, 1));
@@ -189,7 +188,7 @@ fn by_luck(vectors: &mut Vectors, numbers: &mut Numbers) {
         for response in 0..group.q {
             let mut board = right.clone();
             let share = board.at(SHARE, 2, 1);
-            board.change(share, 3, |opened| group.product(opened, G));
+            board.change(share, 3, |opened| group.product(opened, group.g));
             board.change(share, 4, |_| challenge);
             board.change(share, 5, |_| response);
             board.add(vectors);

@@ -9,9 +9,10 @@ use crate::posting::Members;
 use crate::record::{self, Record, ADDED, KEY, LINE, OPENING, SHARE};
 use crate::round::Figures;
 
-/// The bytes of a round's set, the board's records, and bytes behind these.
+/// The table of groups, the bytes of a round's set, the board's records, and bytes behind these.
 #[derive(Clone)]
 pub struct Posted {
+    pub table: &'static [u8],
     pub set: Vec<u8>,
     pub records: Vec<Record>,
     pub rest: Vec<u8>,
@@ -78,6 +79,7 @@ impl Posted {
 
     pub fn of(figures: Figures, records: Vec<Record>) -> Posted {
         Posted {
+            table: figures.table,
             set: record::bytes([set_record(figures)]),
             records,
             rest: Vec::new(),

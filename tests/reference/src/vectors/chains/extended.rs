@@ -7,7 +7,8 @@ use super::faulty::spoil;
 use super::links::Chain;
 use super::Extension;
 use crate::chain::{LINK, MOST};
-use crate::group::{group, G, H};
+use crate::group::group;
+use crate::table::{G, H};
 
 pub fn add(vectors: &mut Vectors, short: &Chain) {
     grown(vectors);
@@ -29,7 +30,7 @@ fn grown(vectors: &mut Vectors) {
             ..Extension::of(&chain)
         };
         assert_eq!(extension.add(vectors), None);
-        let (_, written) = extension.written();
+        let (_, written) = extension.written(vectors.table);
         let link = written.try_into().expect("a link");
         chain.links.push(link);
         assert_eq!(chain.add(vectors), None);
@@ -38,7 +39,7 @@ fn grown(vectors: &mut Vectors) {
 
 /// Adds a case. It is refused where the value is no element.
 fn add_value(vectors: &mut Vectors, chain: &Chain, number: u32, value: u32) {
-    let is_element = group(number).is_ok_and(|group| group.is_element(value));
+    let is_element = group(&[], number).is_ok_and(|group| group.is_element(value));
     let extension = Extension {
         number,
         value,
@@ -54,7 +55,7 @@ fn values(vectors: &mut Vectors, short: &Chain) {
         add_value(vectors, &short.first(2), 1, value);
     }
     for number in 1..=3 {
-        let group = group(number).expect("a group from 1 to 3");
+        let group = vectors.group(number);
         for value in end_values(&group).into_iter().chain([G, H, G * G]) {
             for (count, number) in (1..=3).enumerate() {
                 add_value(vectors, &short.first(count), number, value);
@@ -87,7 +88,7 @@ fn sizes(vectors: &mut Vectors, chain: &Chain) {
 }
 
 fn refused(vectors: &mut Vectors, short: &Chain) {
-    let p = group(3).expect("group 3").p;
+    let p = vectors.group(3).p;
     let faults: [Fault<Extension>; 19] = [
         (3, &|e| e.chain.rest.push(0)),
         (3, &|e| e.chain.rest.resize(63, 0)),

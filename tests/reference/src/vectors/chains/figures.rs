@@ -4,9 +4,10 @@ use super::super::sample::end_values;
 use super::super::Vectors;
 use super::links::Chain;
 use crate::chain::LINK;
-use crate::group::{group, G, H};
+use crate::group::group;
 use crate::numbers::Numbers;
 use crate::record::SIZE;
+use crate::table::{G, H};
 use std::collections::BTreeSet;
 
 /// Groups with values of which some are elements of other groups too.
@@ -72,7 +73,7 @@ fn rounds_behind(vectors: &mut Vectors, right: &Chain, k: usize) {
 
 /// Every element of group 1 as the last value, and all that are none up to p + 1.
 fn every_value(vectors: &mut Vectors) {
-    let group = group(1).expect("group 1");
+    let group = vectors.group(1);
     vectors.load(&Chain::of([(1, G), (1, G)]).bytes());
     for value in 0..=24 {
         let expected = (!group.is_element(value)).then_some(6);
@@ -84,7 +85,7 @@ fn every_value(vectors: &mut Vectors) {
 /// Values at the ends of their range, the negative of the right one, and that one with p added. The digest is that of the
 /// right value, and then that of the other.
 fn values(vectors: &mut Vectors, number: u32, k: usize) {
-    let group = group(number).expect("a group from 1 to 3");
+    let group = vectors.group(number);
     let right = Chain::of([(number, G), (number, H), (number, G * G)]);
     vectors.load(&right.bytes());
     let value = right.figures(k)[1];
@@ -105,7 +106,7 @@ fn groups(vectors: &mut Vectors) {
     vectors.load(&right.bytes());
     for (k, (_, value)) in MIXED.into_iter().enumerate() {
         for number in [0, 1, 2, 3, 4, 5, 257, 65_538, 0x0100_0003, u32::MAX] {
-            let expected = match group(number) {
+            let expected = match group(&[], number) {
                 Ok(group) => (!group.is_element(value)).then_some(6),
                 Err(refusal) => Some(refusal),
             };

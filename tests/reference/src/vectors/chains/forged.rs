@@ -6,7 +6,6 @@ use super::super::Vectors;
 use super::links::Chain;
 use super::GROUPS;
 use crate::chain::{Digest, START};
-use crate::group::group;
 use crate::numbers::Numbers;
 use crate::record::SIZE;
 use crate::sha256::sha256;
@@ -20,7 +19,7 @@ pub fn add(vectors: &mut Vectors, numbers: &mut Numbers) {
         changed(vectors, &right, k);
     }
     moved(vectors, &right);
-    joined(vectors, &right, &Chain::any(GROUPS, numbers));
+    joined(vectors, &right, &Chain::any(vectors.table, GROUPS, numbers));
     by_other_rules(vectors, &right);
 }
 
@@ -93,7 +92,7 @@ fn of_other_links(vectors: &mut Vectors, right: &Chain, k: usize) {
 /// Another element as a link's value: alone, with its own digest, and with all digests behind. The last is a proper chain,
 /// as one with its own digest is at the last link.
 fn changed(vectors: &mut Vectors, right: &Chain, k: usize) {
-    let group = group(GROUPS[k]).expect("a group from 1 to 3");
+    let group = vectors.group(GROUPS[k]);
     let mut chain = right.clone();
     chain.change(k, 1, |value| other_element(&group, value));
     assert_eq!(chain.add(vectors), Some(18));

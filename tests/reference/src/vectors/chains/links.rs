@@ -2,9 +2,9 @@
 
 use super::super::Vectors;
 use crate::chain::{digest, Digest, LINK, START};
-use crate::group::{group, G};
 use crate::numbers::Numbers;
 use crate::record::{self, Record, SIZE};
+use crate::table;
 
 /// The links, and bytes behind them.
 #[derive(Clone)]
@@ -31,10 +31,15 @@ impl Chain {
     }
 
     /// Links of these groups with any elements.
-    pub fn any(groups: impl IntoIterator<Item = u32>, numbers: &mut Numbers) -> Chain {
+    pub fn any(
+        table: &[u8],
+        groups: impl IntoIterator<Item = u32>,
+        numbers: &mut Numbers,
+    ) -> Chain {
+        let table = table::judge(table).expect("a proper table");
         Chain::of(groups.into_iter().map(|number| {
-            let group = group(number).expect("a group from 1 to 3");
-            (number, group.power(G, numbers.below(group.q)))
+            let group = table.group(number).expect("a group of the table");
+            (number, group.power(group.g, numbers.below(group.q)))
         }))
     }
 
@@ -44,7 +49,7 @@ impl Chain {
         groups: impl IntoIterator<Item = u32>,
         numbers: &mut Numbers,
     ) -> Chain {
-        let chain = Chain::any(groups, numbers);
+        let chain = Chain::any(vectors.table, groups, numbers);
         vectors.load(&chain.bytes());
         chain
     }

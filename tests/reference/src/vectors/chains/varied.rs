@@ -3,7 +3,6 @@
 use super::super::Vectors;
 use super::links::Chain;
 use super::Extension;
-use crate::group::{group, G};
 use crate::numbers::Numbers;
 
 /// How many chains there are of each base.
@@ -50,11 +49,11 @@ fn change(chain: &mut Chain, all: &Chain, numbers: &mut Numbers) {
 /// By any element of a group, as a value of any, into a buffer that seldom is no link.
 fn extend(vectors: &mut Vectors, chain: Chain, numbers: &mut Numbers) {
     let [of, number] = [(); 2].map(|()| 1 + numbers.below(3));
-    let group = group(of).expect("a group from 1 to 3");
+    let group = vectors.group(of);
     let extension = Extension {
         chain,
         number: if numbers.below(2) > 0 { of } else { number },
-        value: group.power(G, numbers.below(group.q)),
+        value: group.power(group.g, numbers.below(group.q)),
         size: if numbers.below(8) > 0 { 64 } else { 63 },
     };
     extension.add(vectors);

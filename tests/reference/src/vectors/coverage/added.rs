@@ -16,7 +16,7 @@ const JUDGE: [u32; 9] = [1, 2, 8, 3, 6, 4, 17, 6, 7];
 
 /// Whether a figure is right in the case's group. Where there is no such group, it is where it is right in some.
 fn holds(case: &Case, is_right: impl Fn(&Group) -> bool) -> bool {
-    let is_in = |number| group(number).is_ok_and(|group| is_right(&group));
+    let is_in = |number| group(&[], number).is_ok_and(|group| is_right(&group));
     match case.arguments[0] {
         number @ 1..=3 => is_in(number),
         _ => (1..=3).any(is_in),
@@ -126,7 +126,7 @@ fn refused_buffers() {
 #[test]
 fn ends_of_ranges() {
     for (number, n) in [(1, 4), (3, 31)] {
-        let q = group(number).unwrap().q;
+        let q = group(&[], number).unwrap().q;
         let of_group = || answered(20).filter(|case| case.arguments[..2] == [number, n]);
         let has = |is_one: &dyn Fn(&Case) -> bool, refused| {
             let mut cases = of_group().filter(|case| refusal(case) == refused);

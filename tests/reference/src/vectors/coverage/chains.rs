@@ -58,7 +58,7 @@ impl Chained {
 /// Whether there is no such group, and whether it does not have the value. A value counts as one of no group where it is
 /// of none at all.
 fn of_value(number: u32, value: u32) -> Vec<u32> {
-    let is_of = |number| group(number).is_ok_and(|group| group.is_element(value));
+    let is_of = |number| group(&[], number).is_ok_and(|group| group.is_element(value));
     let is_group = (1..=3).contains(&number);
     let is_element = is_of(number) || !is_group && (1..=3).any(is_of);
     failed([(1, is_group), (6, is_element)])
@@ -216,7 +216,7 @@ fn what_is_written() {
         if chained.is_accepted() {
             let link = bytes(&listed(chained.case));
             let longer = [&chained.chain[..], &link].concat();
-            assert_eq!((link.len(), judge_chain(&longer)), (size, Ok(())));
+            assert_eq!((link.len(), judge_chain(&[], &longer)), (size, Ok(())));
             counts.insert(chained.faults.len());
         } else {
             let (_, digits) = chained.case.answer.rsplit_once(' ').unwrap();
@@ -240,7 +240,7 @@ fn every_start_of_an_accepted_chain() {
     for chain in &accepted {
         if !next.next().is_some_and(|next| next.starts_with(chain)) {
             for length in (0..chain.len()).step_by(LINK) {
-                assert_eq!(judge_chain(&chain[..length]), Ok(()));
+                assert_eq!(judge_chain(&[], &chain[..length]), Ok(()));
             }
         }
     }

@@ -91,7 +91,7 @@ fn crossed(files: &'static Files) -> Vec<Crossed> {
     let crossed = of_rule.map(|crossing| Crossed {
         crossing,
         text: files.text,
-        other: draw::text(&with_word(files.set, 5, crossing.1), &files.board),
+        other: draw::text(&[], &with_word(files.set, 5, crossing.1), &files.board),
     });
     crossed.filter(|one| one.text != one.other).collect()
 }

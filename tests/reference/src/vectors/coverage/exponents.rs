@@ -4,7 +4,6 @@
 use super::others::words;
 use super::ways::{right, Way, OF_BYTES, OF_ROUNDS};
 use super::*;
-use crate::group::{G, H};
 use crate::message::{dealing_message, first_coefficient, share_message, ADDED, OPENED};
 use crate::round::{Figures, Round};
 use crate::sha256::sha256;
@@ -32,7 +31,7 @@ fn of_dealing(case: &Case) -> Challenge {
     let power = |base, nonce| round.group.power(base, nonce);
     let announced = keys.iter().zip(nonces);
     let announced: Vec<[u32; 2]> = announced
-        .map(|(&y, &w)| [power(G, w), power(y, w)])
+        .map(|(&y, &w)| [power(round.group.g, w), power(y, w)])
         .collect();
     let written = listed(case);
     let dealt: Vec<[u32; 2]> = written.chunks(8).map(|line| [line[3], line[4]]).collect();
@@ -51,8 +50,8 @@ fn of_share(case: &Case) -> Challenge {
     let [encrypted, x, nonce] = [payload[0], payload[1], payload[2]];
     let written = listed(case);
     let opened = written[3];
-    let key = round.group.power(H, x);
-    let [a1, a2] = [H, opened].map(|base| round.group.power(base, nonce));
+    let key = round.group.power(round.group.h, x);
+    let [a1, a2] = [round.group.h, opened].map(|base| round.group.power(base, nonce));
     let hashed = [key, encrypted, opened, a1, a2];
     Challenge {
         digest: sha256(&share_message(tag, &round, dealer, member, &hashed)),

@@ -18,7 +18,7 @@ fn first_rounds_in_round_0() {
     }
     for Files { set, board, text } in texts() {
         if rule_of(set).is_some_and(|(round, first)| round == 0 && first != 0) {
-            assert_eq!(draw::text(&with_word(set, 5, 0), board), *text);
+            assert_eq!(draw::text(&[], &with_word(set, 5, 0), board), *text);
         }
     }
 }

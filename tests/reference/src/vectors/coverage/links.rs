@@ -3,8 +3,8 @@
 use super::chains::{chains, Chained};
 use super::*;
 use crate::chain::LINK;
-use crate::group::G;
 use crate::sha256::sha256;
+use crate::table::G;
 use std::collections::BTreeMap;
 
 /// The first link of a chain that has a fault, with its place, and the link before it.
@@ -123,7 +123,7 @@ fn rounds() {
 fn values_that_are_none() {
     for cases in chains() {
         for number in 1..=3 {
-            let p = group(number).unwrap().p;
+            let p = group(&[], number).unwrap().p;
             let of_group = faulty(cases, &[6]).filter(|faulty| faulty.figures()[2] == number);
             let values: BTreeSet<u32> = of_group.map(|faulty| faulty.figures()[1]).collect();
             for value in [0, p - G, p - 1, p, p + 1, p + G, u32::MAX] {
@@ -144,7 +144,7 @@ fn values_that_are_accepted() {
         .map(|[_, value, number, ..]| (number, value))
         .collect();
     for number in 1..=3 {
-        let group = group(number).unwrap();
+        let group = group(&[], number).unwrap();
         let largest = (1..group.p).rev().find(|&value| group.is_element(value));
         assert!([1, G, largest.unwrap()]
             .iter()
@@ -172,7 +172,7 @@ fn values_of_other_groups() {
         let mut found = BTreeSet::new();
         for faulty in faulty(cases, &[6]) {
             let [_, value, number, ..] = faulty.figures();
-            let has_value = |other: &u32| group(*other).unwrap().is_element(value);
+            let has_value = |other: &u32| group(&[], *other).unwrap().is_element(value);
             found.extend((1..=3).filter(has_value).map(|other| (number, other)));
         }
         assert_eq!(found.len(), 6);

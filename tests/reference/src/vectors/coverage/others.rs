@@ -243,7 +243,7 @@ fn boards_with_other_faults() {
     let mut ends = BTreeSet::new();
     for Files { set, board, text } in texts() {
         if let Some(round) = round_of(set).filter(|_| *text == "refused 17\n") {
-            let text = draw::text(set, &numbered(records(board), round));
+            let text = draw::text(&[], set, &numbered(records(board), round));
             let end = text.lines().last().unwrap().to_string();
             ends.insert((round == 0, end.replace("refused ", "")));
         }

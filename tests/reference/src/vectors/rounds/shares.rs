@@ -5,7 +5,6 @@ use super::super::judge_share::{self, Case};
 use super::super::sample::{fours, proper, rounds};
 use super::super::{write_share, Vectors};
 use super::{others, OTHERS, ROUNDS};
-use crate::group::H;
 use crate::numbers::Numbers;
 use crate::round::{Figures, FOUR};
 
@@ -33,11 +32,12 @@ pub fn written(vectors: &mut Vectors, figures: Figures, numbers: &mut Numbers) {
     let case = write_share::Case::any(figures, numbers);
     assert_eq!(case.add(vectors), None);
     let (_, record) = case.written();
+    let group = proper(figures).group;
     let judged = Case {
         figures,
         dealer: case.dealer,
         member: case.member,
-        key: proper(figures).group.power(H, case.secret_key),
+        key: group.power(group.h, case.secret_key),
         encrypted: case.encrypted,
         record,
     };

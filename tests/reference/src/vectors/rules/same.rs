@@ -5,7 +5,6 @@ use super::super::faults::InRound;
 use super::super::rounds::renumbered::everything;
 use super::super::sample::proper;
 use super::super::{judge_dealing, judge_share, write_dealing, write_share, Vectors};
-use crate::group::H;
 use crate::numbers::Numbers;
 use crate::round::Figures;
 
@@ -47,6 +46,7 @@ fn dealings(vectors: &mut Vectors, figures: Figures, firsts: [u32; 3], numbers: 
 fn shares(vectors: &mut Vectors, figures: Figures, firsts: [u32; 3], numbers: &mut Numbers) {
     let mut case = write_share::Case::any(figures.with_first(firsts[0]), numbers);
     let (_, record) = case.written();
+    let group = proper(figures).group;
     for first in firsts {
         case.figures.first = first;
         assert_eq!(case.written(), (Ok(()), record.clone()));
@@ -55,7 +55,7 @@ fn shares(vectors: &mut Vectors, figures: Figures, firsts: [u32; 3], numbers: &m
             figures: case.figures,
             dealer: case.dealer,
             member: case.member,
-            key: proper(figures).group.power(H, case.secret_key),
+            key: group.power(group.h, case.secret_key),
             encrypted: case.encrypted,
             record: record.clone(),
         };

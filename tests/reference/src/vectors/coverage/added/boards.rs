@@ -23,7 +23,7 @@ impl Added {
         is_judged.then(|| Added {
             files,
             records,
-            without: draw::text(files.set, &left),
+            without: draw::text(&[], files.set, &left),
         })
     }
 

@@ -2,7 +2,6 @@
 
 use super::boards::{boards, Added};
 use super::*;
-use crate::group::H;
 use crate::modular::{difference, inverse, product};
 use crate::record::{LINE, OPENING};
 
@@ -153,7 +152,7 @@ fn shares(board: &Added, way: &Way) -> Vec<Share> {
     let figures = Figures::of(number, n, t)
         .with_round(round)
         .with_first(first);
-    let group = group(number).unwrap();
+    let group = group(&[], number).unwrap();
     let verdicts = board.verdicts();
     let (mut keys, mut products, mut shares) = (Vec::new(), vec![1; n as usize], Vec::new());
     for record in &board.records {
@@ -186,7 +185,7 @@ fn end(board: &Added, way: &Way) -> String {
         return board.end().to_string();
     }
     let [number, _, t] = board.figures();
-    let group = group(number).unwrap();
+    let group = group(&[], number).unwrap();
     let serving = (way.serve)(shares(board, way), t as usize);
     let serving = serving.filter(|shares| shares.iter().all(|s| group.is_element(s.opened)));
     match serving {
@@ -242,13 +241,13 @@ fn the_product_of_the_secrets() {
     let mut count = 0;
     for board in boards().iter().filter(|board| board.is_by_added()) {
         let [number, ..] = board.figures();
-        let group = group(number).unwrap();
+        let group = group(&[], number).unwrap();
         let accepted = (1..).zip(board.verdicts()).filter(|(_, v)| is_accepted(v));
         let secrets: Option<Vec<u32>> = accepted
             .map(|(dealer, _): (u32, &str)| {
                 let line = board.records.iter().find(|r| r[..2] == [LINE, dealer])?;
                 let mut found = openings.iter().filter(|o| o.0 == number && o.2 == *line);
-                found.next().map(|opening| group.power(H, opening.1))
+                found.next().map(|opening| group.power(group.h, opening.1))
             })
             .collect();
         if let Some(secrets) = secrets.filter(|_| number == 3) {

@@ -1,0 +1,88 @@
+//! The built-in groups as a table: cases from before tables again, with the same answers.
+
+use super::super::cases::{self, Case};
+use super::super::{bytes, Vectors};
+use super::groups::lent;
+use crate::record;
+use crate::table::BUILT_IN;
+use std::collections::BTreeMap;
+
+/// How many cases of one operation there are for one answer, or one number of a refusal.
+const OF_EACH: usize = 4;
+
+/// The longest board or chain, in bytes.
+const LONGEST: usize = 1400;
+
+/// The operations that are lent a table.
+const OPERATIONS: [u32; 17] = [2, 3, 4, 5, 6, 7, 8, 9, 10, 11, 12, 13, 15, 17, 18, 20, 21];
+
+/// What the answer is of: the number of a refusal, or the verdicts and the end of a text.
+fn class(case: &Case) -> String {
+    let words = case.text.split([' ', '\n']).chain(case.answer.split(' '));
+    let is_number = |word: &str| word.bytes().all(|byte| byte.is_ascii_hexdigit());
+    match case.operation {
+        13 => {
+            let mut said: Vec<&str> = words.filter(|word| !is_number(word)).collect();
+            said.sort();
+            said.dedup();
+            said.join(" ")
+        }
+        _ if case.answer.starts_with("refused") => case.answer[..10.min(case.answer.len())].into(),
+        _ => String::new(),
+    }
+}
+
+/// A case with the board or chain in it, as nothing is the base.
+fn alone(case: &Case) -> Vec<u8> {
+    let mut header = [0; 8];
+    header[0] = case.operation;
+    header[1..7].copy_from_slice(&case.arguments);
+    let mut payload = case.payload.to_vec();
+    if matches!(case.operation, 11..=13 | 17 | 18) {
+        let board = case.board();
+        header[5] = 0;
+        payload.truncate(case.arguments[5] as usize);
+        if !board.is_empty() {
+            payload.extend(bytes(&[0, 0, board.len() as u32]));
+            payload.extend(board);
+        }
+    }
+    header[7] = payload.len() as u32;
+    [record::bytes([header]), payload].concat()
+}
+
+/// Cases of every operation and of every class of answers, spread over all that there are.
+fn chosen<'a>(all: &'a [Case<'a>]) -> Vec<&'a Case<'a>> {
+    let mut classes: BTreeMap<(u32, String), Vec<&Case>> = BTreeMap::new();
+    for case in all
+        .iter()
+        .filter(|case| OPERATIONS.contains(&case.operation))
+    {
+        let is_on_base = matches!(case.operation, 11..=13 | 17 | 18);
+        let is_short = case.payload.len() <= LONGEST && case.answer.len() <= LONGEST;
+        if is_short && (!is_on_base || case.board().len() <= LONGEST) {
+            let of_class = classes.entry((case.operation, class(case)));
+            of_class.or_default().push(case);
+        }
+    }
+    let spread = |cases: Vec<&'a Case<'a>>| {
+        let step = cases.len().div_ceil(OF_EACH);
+        cases.into_iter().step_by(step)
+    };
+    classes.into_values().flat_map(spread).collect()
+}
+
+pub fn add(vectors: &mut Vectors) {
+    let (stdin, stdout) = (vectors.stdin.clone(), vectors.stdout.clone());
+    let all = cases::read(&stdin, &stdout).expect("the answers to the input");
+    let before = all.iter().take_while(|case| case.table.is_empty()).count();
+    vectors.load(&[]);
+    vectors.lend(lent(&BUILT_IN));
+    let mut chosen = chosen(&all[..before]);
+    chosen.sort_by_key(|case| (case.round, case.first));
+    for case in chosen {
+        vectors.in_round(case.round, case.first);
+        vectors.stdin.extend(alone(case));
+        vectors.stdout += &format!("{} {}\n{}", case.name, case.answer, case.text);
+    }
+}
