@@ -1,15 +1,19 @@
--- Every member has one key record: 12 says that the search finds one, and two of one member would have one address.
+-- Every member has one key record: 12 says that the search finds one, and two of one member would have one address. His key is his own,
+-- by 22, which refuses every other board.
 use mathlib.Core.Path.{sym, _∙_}
+use mathlib.Core.Logic.{inr}
 use native.Mathlib.Omega.{arith}
 use borrow.Author.Tests.{ltb-true}
 use Rattle.words.specs.Bytes.{recordsIn, recordAt}
 use Rattle.words.proofs.Tests.{all-map}
+use Rattle.words.proofs.Stages.{rest-first}
 use Rattle.sharing.specs.Setting.{members}
 use Rattle.records.specs.Layout.{keyKind}
 use Rattle.records.specs.Keys.{isKey, keyChecks}
-use Rattle.records.proofs.Members.{members-exactly}
-use Rattle.board.specs.Board.{keyPlace, hasKey, keyIn}
-use Rattle.board.specs.Claims.{KeysExact}
+use Rattle.records.proofs.Members.{members-exactly, members-own}
+use Rattle.records.proofs.ProperKeys.{keys-proper, equal-keys}
+use Rattle.board.specs.Board.{keyPlace, hasKey, keyIn, keysIn, formChecks, boardKeyChecks, boardChecks}
+use Rattle.board.specs.Claims.{KeysExact, BoardKeyTwice}
 use Rattle.board.proofs.Order.{reached, shapes, sorted}
 use Rattle.board.proofs.Places.{at-true, true-at, record-is, only-record}
 
@@ -28,4 +32,10 @@ keys-exact S b c m h l =
       proper =
           members-exactly (λ i. isKey (S .group) (keyIn b i)) (S .n) .0
           (sym (all-map (isKey (S .group)) (keyIn b) (members (S .n))) ∙ r .proper .0) m h l;
+      own = λ k g u. members-own (keyIn b) (S .n) (keys-proper (S .group) (keysIn (S .n) b) .0 (r .proper) .distinct) k m g u h l;
     }
+
+pub board-key-twice : BoardKeyTwice
+unfolding boardChecks boardKeyChecks
+board-key-twice S b m e T =
+    rest-first (formChecks S b) (boardKeyChecks S b) 22 m (inr (e, equal-keys (S .group) (keysIn (S .n) b) .1 T))

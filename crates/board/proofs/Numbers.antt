@@ -26,7 +26,7 @@ module _ (S : Setting) (b : List ℕ) where
   board-numbered : Numbered (boardChecks S b)
   unfolding boardChecks boardKeyChecks keyChecks
   board-numbered =
-      All-append (λ (c : Check). 0 < c .number) (formChecks S b) (boardKeyChecks S b) (form-numbered) (omega arith, (omega arith, tt))
+      All-append (λ (c : Check). 0 < c .number) (formChecks S b) (boardKeyChecks S b) (form-numbered) (omega arith, (omega arith, (omega arith, tt)))
 
   pub board-met : refusal (boardChecks S b) ≡ 0 → Met (boardChecks S b)
   board-met = none-exactly (boardChecks S b) board-numbered .0

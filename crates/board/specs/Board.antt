@@ -88,11 +88,11 @@ keyIn b m = yOf (recordAt b (keyPlace b m))
 abbrev pub keysIn : ℕ → List ℕ → List ℕ
 keysIn n b = map (keyIn b) (members n)
 
--- 12 a key missing, 6 a bad key
+-- 12 a key missing, then 6 a bad key and 22 two equal ones
 unfoldable pub boardKeyChecks : Setting → List ℕ → List Check
 boardKeyChecks S b = 12 unless all (hasKey b) (members (S .n)) ∷ keyChecks (S .group) (keysIn (S .n) b)
 
--- ---- what is refused before verdicts: 3; record by record 4, 17 and 5; 12 and 6
+-- ---- what is refused before verdicts: 3; record by record 4, 17 and 5; 12, 6 and 22
 unfoldable pub boardChecks : Setting → List ℕ → List Check
 boardChecks S b = formChecks S b ++ boardKeyChecks S b
 

@@ -4,25 +4,34 @@ use mathlib.Core.Bool.{true}
 use mathlib.Core.List.{List, _++_}
 use Prim.Native.Nat.{ℕ, _+_, _*_, _<_, _≤_}
 use lib.ListN.{length}
+use Rattle.words.specs.Lists.{all}
 use Rattle.words.specs.Checks.{Met, FirstUnmet}
 use Rattle.words.specs.Bytes.{recordsIn, recordAt}
-use Rattle.sharing.specs.Setting.{ProperSetting}
+use Rattle.sharing.specs.Setting.{ProperSetting, members}
 use Rattle.sharing.specs.declared.Setting.{Setting}
 use Rattle.records.specs.Layout.{keyKind, lineKind, dealerOf, memberOf, roundOf, recordOf}
 use Rattle.records.specs.Keys.{isKey}
-use Rattle.board.specs.Board.{isShaped, recordChecks, lengthChecks, formChecks, boardChecks, keyPlace, keyIn, linesStart, linesEnd, lineCount, linesOf}
+use Rattle.records.specs.Claims.{KeyTwice}
+use Rattle.board.specs.Board.{isShaped, recordChecks, lengthChecks, formChecks, boardChecks, keyPlace, hasKey, keyIn, keysIn, linesStart, linesEnd, lineCount, linesOf}
 
 -- ---- keys
--- the record at keyPlace is the one key record of member m, and holds a proper key
+-- the record at keyPlace is the one key record of member m, and holds a key that no other member has
 pub record ExactKey (S : Setting) (b : List ℕ) (m : ℕ) : Type 0 where
   pub inside : keyPlace b m < recordsIn b
   pub kind : recordAt b (keyPlace b m) .w0 ≡ keyKind
   pub member : memberOf (recordAt b (keyPlace b m)) ≡ m
   pub only : (i : ℕ) → i < recordsIn b → recordAt b i .w0 ≡ keyKind → memberOf (recordAt b i) ≡ m → i ≡ keyPlace b m
   pub proper : isKey (S .group) (keyIn b m) ≡ true
+  pub own : (k : ℕ) → 1 ≤ k → k ≤ S .n → keyIn b k ≡ keyIn b m → k ≡ m
 
 abbrev pub KeysExact : Type 0
 KeysExact = (S : Setting) (b : List ℕ) → Met (boardChecks S b) → (m : ℕ) → 1 ≤ m → m ≤ S .n → ExactKey S b m
+
+-- two members with one key refuse a board by 22 where nothing earlier does: its form and order, a key missing, or one that is none
+abbrev pub BoardKeyTwice : Type 0
+BoardKeyTwice =
+    (S : Setting) (b : List ℕ) → Met (formChecks S b) → all (hasKey b) (members (S .n)) ≡ true → KeyTwice (S .group) (keysIn (S .n) b)
+    → FirstUnmet 22 (boardChecks S b)
 
 -- ---- a dealer's lines
 -- the part of the board holds exactly the dealer's lines, in place; where he has n, each member's line stands at the member's place

@@ -46,7 +46,7 @@ pub fn board_keys(b: &[u8], n: u32) -> [u32; 31]
     ys
 }
 
-// What the keys are refused by: 12 a key missing; 6 a bad key. 0 where they are not.
+// What the keys are refused by: 12 a key missing; 6 a bad key; 22 two equal keys. 0 where they are not.
 // Internal: callers ensure that the setting is proper and that the records ascend.
 fn board_keys_refusal(s: Setting, b: &[u8]) -> u32
     requires { ⌜ (ProperSetting s) × (Sorted (now b)) ⌝ }
@@ -59,7 +59,7 @@ fn board_keys_refusal(s: Setting, b: &[u8]) -> u32
     keys_refusal(s.group, &board_keys(b, s.n)[..n])
 }
 
-// What a board is refused by before verdicts: 3, 4, 17 and 5 its form; 12 and 6 its keys. 0 where it is not.
+// What a board is refused by before verdicts: 3, 4, 17 and 5 its form; 12, 6 and 22 its keys. 0 where it is not.
 // Internal: callers ensure that the setting is proper.
 pub fn board_refusal_in(s: Setting, b: &[u8]) -> u32
     requires { ⌜ ProperSetting s ⌝ }

@@ -1,4 +1,5 @@
--- Proofs of what specs/Claims.antt states.
+-- Proofs of what specs/Claims.antt and specs/EqualKeys.antt state.
 pub mod Answers
 pub mod Known
 pub mod Conditions
+pub mod EqualKeys

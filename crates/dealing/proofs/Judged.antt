@@ -24,11 +24,12 @@ use Rattle.sharing.proofs.Theorems.{uncarried-one-value}
 use Rattle.records.specs.Layout.{isLineRecord, dealerOf, memberOf, roundOf, recordOf}
 use Rattle.records.specs.Keys.{keyChecks}
 use Rattle.records.proofs.Members.{each-members, members-exactly, members-false}
+use Rattle.records.proofs.ProperKeys.{keys-proper}
 use Rattle.challenge.specs.Message.{checkPolynomial}
 use Rattle.challenge.proofs.Challenges.{check-polynomial}
 use Rattle.dealing.specs.Dealing.{addressChecks, judgeSizeChecks, vIn, YIn, rIn, cIn, vsIn, isLineFor, isLineOf, isLineOfRound, lineChecks, dealingFormChecks, recomputed, rangeChecks, equationChecks, lineFigureChecks, judgeDealingChecks, judgeDealingIn}
 use Rattle.dealing.specs.Claims.{Line, PostedDealing, AcceptedDealing, DealingExactly, EquationRefused, DealingRefused, DealingOfOtherRound, AcceptedPasses, AcceptedUncarried}
-use Rattle.dealing.proofs.Settled.{FormedDealing, met-keys, keys-met, met-formed, formed-met}
+use Rattle.dealing.proofs.Settled.{FormedDealing, met-formed, formed-met}
 
 module _ (S : Setting) (d : ℕ) (ys b : List ℕ) where
   abbrev G : Group
@@ -82,7 +83,7 @@ module _ (S : Setting) (d : ℕ) (ys b : List ℕ) where
       record {
         dealer = F .dealer;
         keys-size = F .keys-size;
-        keys = met-keys G ys (F .keys);
+        keys = keys-proper G ys .0 (F .keys);
         size = F .size;
         lines = λ i h l.
             line i (each _ (F .lines .0) i h l) (each _ (F .lines .1 .0) i h l) (each _ (elements .0) i h l) (each _ (elements .1) i h l) (each _ (exponents .0) i h l) (each _ (exponents .1) i h l);
@@ -96,7 +97,7 @@ module _ (S : Setting) (d : ℕ) (ys b : List ℕ) where
           dealer = P .dealer;
           keys-size = P .keys-size;
           size = P .size;
-          keys = keys-met G ys (P .keys);
+          keys = keys-proper G ys .1 (P .keys);
           lines = (
             members-exactly (isLineOf d b) (S .n) .1 (λ i h l. line-form i (P .lines i h l)),
             (members-exactly (isLineOfRound (S .round) b) (S .n) .1 (λ i h l. eq-eqb _ (S .round) (P .lines i h l .round)), tt),

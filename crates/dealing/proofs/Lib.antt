@@ -2,6 +2,7 @@
 pub mod Entries
 pub mod Settled
 pub mod Judged
+pub mod KeyTwice
 pub mod Lines
 pub mod Arrays
 pub mod Written

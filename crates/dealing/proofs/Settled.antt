@@ -16,19 +16,11 @@ use Rattle.group.specs.declared.Group.{Group}
 use Rattle.group.proofs.Elements.{exponent-true}
 use Rattle.sharing.specs.Carried.{Polynomial}
 use Rattle.sharing.specs.declared.Setting.{Setting}
-use Rattle.records.specs.Keys.{isKey, keyChecks}
+use Rattle.records.specs.Keys.{keyChecks}
+use Rattle.records.specs.Claims.{ProperKeys}
 use Rattle.records.proofs.Members.{member-exactly}
+use Rattle.records.proofs.ProperKeys.{keys-proper}
 use Rattle.dealing.specs.Dealing.{addressChecks, writeSizeChecks, secretChecks, writeDealingChecks, judgeSizeChecks, lineChecks, dealingFormChecks}
-
--- ---- the keys
-module _ (G : Group) (ys : List ℕ) where
-  pub met-keys : Met (keyChecks G ys) → All (λ y. isKey G y ≡ true) ys
-  unfolding keyChecks
-  met-keys m = all-true (isKey G) ys (m .0)
-
-  pub keys-met : All (λ y. isKey G y ≡ true) ys → Met (keyChecks G ys)
-  unfolding keyChecks
-  keys-met a = (true-all (isKey G) ys a, tt)
 
 -- ---- the judge, before the lines' figures
 pub record FormedDealing (S : Setting) (d : ℕ) (ys b : List ℕ) : Type 0 where
@@ -61,7 +53,7 @@ module _ (S : Setting) (d : ℕ) (ys b : List ℕ) where
 pub record WritableDealing (S : Setting) (d : ℕ) (ys f ws : List ℕ) : Type 0 where
   pub dealer : (1 ≤ d) × (d ≤ S .n)
   pub keys-size : length ys ≡ S .n
-  pub keys : All (λ y. isKey (S .group) y ≡ true) ys
+  pub keys : ProperKeys (S .group) ys
   pub polynomial : Polynomial S f
   pub nonces-size : length ws ≡ S .n
   pub nonces : Below (S .group .q) ws
@@ -81,7 +73,7 @@ module _ (S : Setting) (d : ℕ) (ys f ws : List ℕ) (room : ℕ) where
         record {
           dealer = member-exactly (S .n) d .0 (m .0);
           keys-size = eqb-true (length ys) (S .n) (one .0);
-          keys = met-keys G ys (rest .0);
+          keys = keys-proper G ys .0 (rest .0);
           polynomial = record { size = eqb-true (length f) (S .t) (two .0); low = exponents f (low .0) };
           nonces-size = three .0;
           nonces = exponents ws (low .1);

@@ -63,7 +63,7 @@ module _ (S : Setting) (P : ProperSetting S) (word : S .round < 2 ^ 32) (d : ℕ
 
   y-element : (i : ℕ) → 1 ≤ i → i ≤ S .n → isElement G (entry ys i) ≡ true
   y-element i h l =
-      key-element G (entry ys i) (entry-all (λ y. isKey G y ≡ true) ys (W .keys) i h (omega (arith, W .keys-size)))
+      key-element G (entry ys i) (entry-all (λ y. isKey G y ≡ true) ys (W .keys .keys) i h (omega (arith, W .keys-size)))
 
   v-element : (i : ℕ) → isElement G (writtenV G f i) ≡ true
   unfolding writtenV

@@ -6,7 +6,7 @@ use mathlib.Core.List.{List, _++_}
 use mathlib.Core.Logic.{_↔_}
 use Prim.Native.Nat.{ℕ, _*_, _^_, _<_, _≤_}
 use lib.ListN.{length, getD}
-use Rattle.words.specs.Lists.{All, all}
+use Rattle.words.specs.Lists.{all}
 use Rattle.words.specs.Checks.{value, refused, Met}
 use Rattle.group.specs.Element.{isElement}
 use Rattle.sharing.specs.Setting.{ProperSetting, settingIn, inRound, roundChecks, members}
@@ -15,9 +15,10 @@ use Rattle.sharing.specs.Carried.{Carries, Commitments, Passes, place, AgreeOff
 use Rattle.sharing.specs.declared.Round.{Round}
 use Rattle.sharing.specs.declared.Setting.{Setting}
 use Rattle.records.specs.Layout.{isLineRecord, dealerOf, memberOf, roundOf, recordOf}
-use Rattle.records.specs.Keys.{isKey, keyChecks}
+use Rattle.records.specs.Keys.{keyChecks}
+use Rattle.records.specs.Claims.{ProperKeys, KeyTwice}
 use Rattle.challenge.specs.Message.{checkPolynomial}
-use Rattle.dealing.specs.Dealing.{addressChecks, judgeSizeChecks, isLineOf, judgeDealingIn, judgeDealingOutcome, vIn, YIn, rIn, cIn, vsIn, recomputed, writtenDealing, writeDealingIn, writeDealingOutcome, lentDealingIn, lentDealing}
+use Rattle.dealing.specs.Dealing.{addressChecks, judgeSizeChecks, isLineOf, judgeDealingIn, judgeDealingOutcome, vIn, YIn, rIn, cIn, vsIn, recomputed, writtenDealing, writeSizeChecks, writeDealingIn, writeDealingOutcome, lentDealingIn, lentDealing}
 
 -- ---- a posted dealing
 -- the line of member i: its form and its figures
@@ -31,11 +32,11 @@ pub record Line (S : Setting) (d : ℕ) (b : List ℕ) (i : ℕ) : Type 0 where
   pub r-low : rIn b i < S .group .q
   pub c-low : cIn b i < S .group .q
 
--- all that is asked of its figures one by one
+-- all that is asked of its figures but for the equations, of the keys that they are distinct
 pub record PostedDealing (S : Setting) (d : ℕ) (ys b : List ℕ) : Type 0 where
   pub dealer : (1 ≤ d) × (d ≤ S .n)
   pub keys-size : length ys ≡ S .n
-  pub keys : All (λ y. isKey (S .group) y ≡ true) ys
+  pub keys : ProperKeys (S .group) ys
   pub size : length b ≡ 32 * S .n
   pub lines : (i : ℕ) → 1 ≤ i → i ≤ S .n → Line S d b i
 
@@ -63,6 +64,19 @@ pub record EquationRefused (S : Setting) (d : ℕ) (ys b : List ℕ) : Type 0 wh
 
 abbrev pub DealingRefused : Type 0
 DealingRefused = (S : Setting) (d : ℕ) (ys b : List ℕ) → PostedDealing S d ys b → EquationRefused S d ys b
+
+-- ---- equal keys
+-- where two members have one key, the judge refuses by 22 if nothing earlier refuses, which is the dealer and the sizes, and so does the
+-- writer
+abbrev pub JudgedKeyTwice : Type 0
+JudgedKeyTwice =
+    (S : Setting) (d : ℕ) (ys b : List ℕ) → Met (addressChecks S d ++ judgeSizeChecks S ys b) → KeyTwice (S .group) ys
+    → judgeDealingIn S d ys b ≡ refused 22
+
+abbrev pub WrittenKeyTwice : Type 0
+WrittenKeyTwice =
+    (S : Setting) (d : ℕ) (ys f ws : List ℕ) (room : ℕ) → Met (addressChecks S d ++ writeSizeChecks S ys f ws room) → KeyTwice (S .group) ys
+    → writeDealingIn S d ys f ws room ≡ refused 22
 
 -- ---- rounds
 -- a dealing with a line of another round is refused by 17 where nothing earlier refuses it: the dealer, the sizes, the keys, and the form of

@@ -83,7 +83,7 @@ fn all_of_round(round: u32, lines: &[u8], n: u32) -> bool
     true
 }
 
-// The first number refused before the figures, of 8, 3, 6 for a key, 4 and 17; 0 where none is.
+// The first number refused before the figures, of 8, 3, 6 and 22 for keys, 4 and 17; 0 where none is.
 fn form_refusal(s: Setting, d: u32, ys: &[u32], lines: &[u8]) -> u32
     ensures { λ r. ⌜ r ≡ refusal (dealingFormChecks s d (now (ys .entry)) (now (lines .entry))) ⌝ }
 {
@@ -244,7 +244,7 @@ pub fn judge_lines(s: Setting, d: u32, ys: &[u32], lines: &[u8]) -> LinesAnswer
     LinesAnswer { answer, figures }
 }
 
-// Judges a dealing in a setting: 8, 3, 6, 4, 17, 6, 7, 9 and 10. Internal: callers ensure that the setting is proper.
+// Judges a dealing in a setting: 8, 3, 6, 22, 4, 17, 6, 7, 9 and 10. Internal: callers ensure that the setting is proper.
 pub fn judge_dealing_in(s: Setting, d: u32, ys: &[u32], lines: &[u8]) -> CheckAnswer
     requires { ⌜ ProperSetting s ⌝ }
     ensures { λ r. ⌜ checkOutcomeOf r ≡ judgeDealingIn s d (now (ys .entry)) (now (lines .entry)) ⌝ }
@@ -257,9 +257,9 @@ pub fn judge_dealing_in(s: Setting, d: u32, ys: &[u32], lines: &[u8]) -> CheckAn
 }
 
 // Judges the lines of the dealer d, with the keys ys. Refused: as setting_of; 8 d is no member; 3 not n keys or not 32n
-// bytes; 6 a key that is no element or is 1; 4 a record that is no line of d for the member of its place; 17 a line of another
-// round; 6 a v or Y that is no element; 7 an r or c not below q; 9 the judge's own check polynomial does not pass; 10 a challenge is
-// not the recomputed one.
+// bytes; 6 a key that is no element or is 1; 22 two equal keys; 4 a record that is no line of d for the member of its place; 17 a line
+// of another round; 6 a v or Y that is no element; 7 an r or c not below q; 9 the judge's own check polynomial does not pass; 10 a
+// challenge is not the recomputed one.
 pub fn judge_dealing(table: &[u8], rd: Round, d: u32, ys: &[u32], lines: &[u8]) -> CheckAnswer
     ensures { λ r. ⌜ checkOutcomeOf r ≡ judgeDealingOutcome (now (table .entry)) rd d (now (ys .entry)) (now (lines .entry)) ⌝ }
 {

@@ -130,7 +130,7 @@ fn sizes_fit(n: u32, t: u32, ys: &[u32], f: &[u32], ws: &[u32], room: usize) -> 
     room == 32 * k
 }
 
-// The first number refused of 8, 3, 6 and 7, 0 where none is.
+// The first number refused of 8, 3, 6, 22 and 7, 0 where none is.
 fn write_refusal(s: Setting, d: u32, ys: &[u32], f: &[u32], ws: &[u32], room: usize) -> u32
     ensures { λ r. ⌜ r ≡ refusal (writeDealingChecks s d (now (ys .entry)) (now (f .entry)) (now (ws .entry)) room) ⌝ }
 {
@@ -153,7 +153,7 @@ fn write_refusal(s: Setting, d: u32, ys: &[u32], f: &[u32], ws: &[u32], room: us
     0
 }
 
-// Writes a dealing in a setting: 8, 3, 6 and 7. Internal: callers ensure that the setting is proper.
+// Writes a dealing in a setting: 8, 3, 6, 22 and 7. Internal: callers ensure that the setting is proper.
 pub fn write_dealing_in(
     s: Setting,
     d: u32,
@@ -176,7 +176,7 @@ pub fn write_dealing_in(
 
 // Writes a dealing of the dealer d into the lent bytes, from the keys ys, the polynomial f and the nonces ws. Refused, with no byte
 // changed: as setting_of; 8 d is no member; 3 not n keys, t coefficients, n nonces or 32n bytes; 6 a key that is no element
-// or is 1; 7 a coefficient or a nonce not below q.
+// or is 1; 22 two equal keys; 7 a coefficient or a nonce not below q.
 pub fn write_dealing(
     table: &[u8],
     rd: Round,

@@ -1,9 +1,10 @@
 -- Boards filed before records had a round's number: the checks of 01 differ from those of round 0 in the number of a test that holds where
 -- word 7 is 0, and the messages and their exponents are the same, so both answer the same, and so do the verdicts. Without records of
--- kind 5 the table of 01 is the same, and a stuck dealing is the end, so the draw is the same too.
+-- kind 5 the table of 01 is the same, and a stuck dealing is the end, so the draw is the same too. With equal keys 22 stands behind all that
+-- 01 tested before the verdicts.
 use mathlib.Core.Path.{_≡_, refl, sym, ap, _∙_}
 use mathlib.Core.Bool.{Bool, true, false, not, _&&_}
-use mathlib.Core.List.{List, [], _∷_, _++_}
+use mathlib.Core.List.{List, [], _∷_, _++_, append-assoc, append-nil}
 use mathlib.Core.Logic.{_⊎_, inl, inr}
 use Prim.Native.Nat.{ℕ, zero, suc, _+_, _-_, _≤_, _<_}
 use native.Mathlib.Omega.{arith}
@@ -11,14 +12,14 @@ use borrow.Author.Tests.{eq-eqb, ne-eqb, eqb-true, lt-leb}
 use lib.ListN.{length}
 use lib.Dec.{leb, eqb}
 use Rattle.words.specs.Choice.{pick}
-use Rattle.words.specs.Lists.{all, map, upFrom}
+use Rattle.words.specs.Lists.{Distinct, all, map, noneTwice, upFrom}
 use Rattle.words.specs.Checks.{Check, _unless_, Outcome, refused, outcome, isValue, Met, FirstUnmet}
 use Rattle.words.specs.Bytes.{recordIn, recordsIn, recordAt, agrees}
 use Rattle.words.specs.declared.Record.{Record}
 use Rattle.words.proofs.Lists.{All-to, All-each, map-same, up-within}
-use Rattle.words.proofs.Tests.{false-true}
-use Rattle.words.proofs.Checks.{decided, refused-exactly}
-use Rattle.words.proofs.Stages.{front-outcome}
+use Rattle.words.proofs.Tests.{false-true, pick-false, pick-same, true-distinct}
+use Rattle.words.proofs.Checks.{decided}
+use Rattle.words.proofs.Stages.{rest-outcome, front-outcome, settled-outcome}
 use Rattle.words.proofs.Alike.{Alike, alike-behind, alike-before, alike-outcome}
 use Rattle.group.specs.Power.{pow}
 use Rattle.group.specs.Element.{isElement, isExponent}
@@ -29,32 +30,30 @@ use Rattle.sharing.specs.declared.Setting.{Setting}
 use Rattle.records.specs.Layout.{shareKind, addedKind, isKeyRecord, isLineRecord, isOpeningRecord, isShareRecord}
 use Rattle.records.specs.Layout.{dealerOf, memberOf, uOf, ZOf, shareC, shareR, entry, recordOf}
 use Rattle.records.specs.Keys.{keyChecks}
+use Rattle.records.specs.Claims.{filedKeyChecks}
 use Rattle.records.proofs.Members.{members-exactly}
+use Rattle.records.proofs.ProperKeys.{keys-proper, twice-key, distinct-as-before}
 use Rattle.challenge.specs.Message.{shareTag, challengeOf, checkPolynomial}
 use Rattle.challenge.proofs.Challenges.{challenge-by-rule, round-zero}
 use Rattle.equality.specs.Equality.{announced}
 use Rattle.dealing.specs.Dealing.{addressChecks, judgeSizeChecks, vIn, YIn, rIn, cIn, vsIn, lineChecks, dealingFormChecks, recomputed, rangeChecks, equationChecks, lineFigureChecks, judgeDealingIn}
 use Rattle.share.specs.Share.{openedForm, addedForm, isDealer, membersChecks, shareInputChecks, shareFormChecks, shareAdmissionChecks, shareRecomputed, shareFigureChecks, judgeShareIn}
-use Rattle.board.specs.Board.{isShaped, recordChecks, lengthChecks, formChecks, boardKeyChecks, boardChecks, lineCount, linesOf, openingPlace}
+use Rattle.board.specs.Board.{isShaped, recordChecks, lengthChecks, formChecks, hasKey, keysIn, boardKeyChecks, boardChecks, lineCount, linesOf, openingPlace}
 use Rattle.board.proofs.Searches.{filter-same}
 use Rattle.board.proofs.Order.{reached}
 use Rattle.board.proofs.LineRun.{line-record}
 use Rattle.verdicts.specs.Shares.{Judges, judges, shareAnswer, isShareIn, sharesIn, fromLowest}
 use Rattle.verdicts.specs.Verdict.{dealingAnswer, encryptedOf, isShareBy, sharesBy, secretFrom, fromShares, isOpened, secretBy, verdictFrom, verdictOn, verdictsOn}
 use Rattle.verdicts.specs.Added.{multiplied, addedBy}
-use Rattle.verdicts.specs.Draw.{countAccepted, anyStuck, secretsProduct, drawValue, drawIn}
+use Rattle.verdicts.specs.Draw.{countAccepted, anyStuck, secretsProduct, drawChecks, drawValue, drawIn}
 use Rattle.verdicts.specs.declared.Secret.the-variants.{Opened}
 use Rattle.verdicts.specs.declared.Verdict.{Verdict}
 use Rattle.verdicts.specs.declared.Verdict.the-variants.{None}
 use Rattle.verdicts.proofs.ShareAnswers.{none-of-kind}
-use Rattle.demand3.specs.Filed.{filedShaped, filedEndChecks, filedRecordChecks, filedBoardChecks, filedExponent, filedLineChecks, filedEquationChecks, filedDealing, filedShareChecks, filedShareFigures, filedShare, filedJudges, filedDraw, FiledAsBefore}
+use Rattle.demand3.specs.Filed.{filedShaped, filedEndChecks, filedRecordChecks, filedBoardChecks, filedExponent, filedLineChecks, filedEquationChecks, filedDealing, filedShareChecks, filedShareFigures, filedShare, filedJudges, filedDraw, OfThen, FiledAsBefore, FiledKeyTwice}
 use Rattle.demand3.proofs.Endings.{refused-before}
 
 -- ---- two judges that answer the same on a board give it the same verdict
-pick-same : {A : Type 0} (t : Bool) (x y z : A) → (t ≡ true → x ≡ y) → pick t x z ≡ pick t y z
-pick-same true x y z h = h refl
-pick-same false x y z h = refl
-
 module _ (J K : Judges) (S : Setting) (b : List ℕ) (d : ℕ) (share : (i : ℕ) → i < recordsIn b → shareAnswer J S b (openedForm d) (encryptedOf S b d) i ≡ shareAnswer K S b (openedForm d) (encryptedOf S b d) i) where
   same-shares : sharesBy J S b d ≡ sharesBy K S b d
   unfolding sharesIn isShareIn
@@ -80,14 +79,14 @@ module _ (J K : Judges) (S : Setting) (b : List ℕ) (d : ℕ) (share : (i : ℕ
       (pick-same (eqb (lineCount b d) (S .n)) _ _ _ (λ e j. verdictFrom (h (eqb-true (lineCount b d) (S .n) e) j) (same-secret j)))
 
 -- ---- round 0
+-- the test of word 7, which holds
+word-alike : (S : Setting) → S .round ≡ 0 → (x : ℕ) → x ≡ 0 → (eqb x (S .round) ≡ eqb x 0) × (eqb x 0 ≡ false → _≡_ {A = ℕ} 17 4)
+word-alike S z x e = (ap (eqb x) z, λ f. absurd (false-true (sym f ∙ eq-eqb x 0 e)))
+
 module _ (S : Setting) (z : S .round ≡ 0) (o : S .whole ≡ false) where
   -- the exponent of a message that is one of 01
   filed-exponent : {m n : List ℕ} → m ≡ n → challengeOf S m ≡ filedExponent S n
   filed-exponent {m} {n} e = ap (challengeOf S) e ∙ challenge-by-rule S n .old o
-
-  -- the test of word 7, which holds
-  word-alike : (x : ℕ) → x ≡ 0 → (eqb x (S .round) ≡ eqb x 0) × (eqb x 0 ≡ false → _≡_ {A = ℕ} 17 4)
-  word-alike x e = (ap (eqb x) z, λ f. absurd (false-true (sym f ∙ eq-eqb x 0 e)))
 
   -- the figures, whose messages are those of 01
   filed-equations : (d : ℕ) (ys b : List ℕ) → equationChecks S d ys (vIn b) (YIn b) (rIn b) (cIn b) ≡ filedEquationChecks S d ys b
@@ -113,11 +112,11 @@ module _ (S : Setting) (z : S .round ≡ 0) (o : S .whole ≡ false) where
       ∷ 10 unless eqb (shareC r) (filed-exponent (round-zero S z d .share shareTag i y Y (ZOf r) a1 a2) j)
       ∷ []
 
-  filed-dealing : (d : ℕ) (ys b : List ℕ) → ((i : ℕ) → 1 ≤ i → i ≤ S .n → recordOf b i .w7 ≡ 0) → judgeDealingIn S d ys b ≡ filedDealing S d ys b
-  unfolding judgeDealingIn dealingFormChecks lineChecks keyChecks
-  filed-dealing d ys b w =
+  filed-dealing : (d : ℕ) (ys b : List ℕ) → Distinct ys → ((i : ℕ) → 1 ≤ i → i ≤ S .n → recordOf b i .w7 ≡ 0) → judgeDealingIn S d ys b ≡ filedDealing S d ys b
+  unfolding judgeDealingIn dealingFormChecks lineChecks keyChecks addressChecks judgeSizeChecks
+  filed-dealing d ys b n w =
       let front = addressChecks S d ++ judgeSizeChecks S ys b in
-      let keys = keyChecks (S .group) ys in
+      let keys = filedKeyChecks (S .group) ys in
       let figures = lineFigureChecks S d ys b in
       let met : all (λ i. eqb (recordOf b i .w7) 0) (members (S .n)) ≡ true =
       members-exactly (λ i. eqb (recordOf b i .w7) 0) (S .n) .1 (λ i h l. eq-eqb (recordOf b i .w7) 0 (w i h l)) in
@@ -127,7 +126,8 @@ module _ (S : Setting) (z : S .round ≡ 0) (o : S .whole ≡ false) where
       let filed = front ++ (keys ++ filedLineChecks (S .n) d b) in
       let form = alike-behind front (keys ++ lineChecks S d b) (keys ++ filedLineChecks (S .n) d b)
       (alike-behind keys (lineChecks S d b) (filedLineChecks (S .n) d b) lines) in
-      alike-outcome (own ++ figures) (filed ++ figures) tt (alike-before own filed figures form)
+      distinct-as-before Unit (S .group) ys n front (lineChecks S d b ++ figures) tt tt .0
+      ∙ alike-outcome (own ++ figures) (filed ++ figures) tt (alike-before own filed figures form)
       ∙ ap (λ (es : List Check). outcome (filed ++ (rangeChecks S (vIn b) (YIn b) (rIn b) (cIn b) ++ es)) tt) (filed-equations d ys b)
 
   filed-share : (d i y Y : ℕ) (b : List ℕ) → recordIn b .w7 ≡ 0 → judgeShareIn S (openedForm d) i y Y b ≡ filedShare S d i y Y b
@@ -135,7 +135,7 @@ module _ (S : Setting) (z : S .round ≡ 0) (o : S .whole ≡ false) where
   filed-share d i y Y b w =
       let front = membersChecks S (openedForm d) i ++ shareInputChecks (S .group) y Y b in
       let figures = shareFigureChecks S (openedForm d) i y Y (recordIn b) in
-      let k = word-alike (recordIn b .w7) w in
+      let k = word-alike S z (recordIn b .w7) w in
       let own = shareFormChecks (S .round) (openedForm d) i (recordIn b) in
       let filed = filedShareChecks d i (recordIn b) in
       alike-outcome ((front ++ own) ++ figures) ((front ++ filed) ++ figures) (record { 0 = ZOf (recordIn b) })
@@ -180,28 +180,48 @@ module _ (J : Judges) (S : Setting) (b : List ℕ) (h : (i : ℕ) → i < record
       ∙ end-same (boardChecks S b) (leb (S .t) (countAccepted vs)) (anyStuck vs) _ _
 
 -- ---- a filed board
-module _ (S : Setting) (z : S .round ≡ 0) (o : S .whole ≡ false) (P : ProperSetting S) (b : List ℕ)
-    (w : (i : ℕ) → i < recordsIn b → (recordAt b i .w7 ≡ 0) × (recordAt b i .w0 ≡ addedKind → ⊥)) where
+module _ (S : Setting) (z : S .round ≡ 0) (b : List ℕ) (w : OfThen b) where
   records-alike : (i m : ℕ) → i + m ≤ recordsIn b → Alike (recordChecks S b i m) (filedRecordChecks (S .n) b i m)
   records-alike i zero h = tt
   records-alike i (suc m) h =
-      let k = word-alike S z o (recordAt b i .w7) (w i (omega arith) .0) in
+      let k = word-alike S z (recordAt b i .w7) (w i (omega arith) .0) in
       (shaped-same (S .n) (recordAt b i) (w i (omega arith) .1), λ e. refl, (k .0, k .1, (refl, λ e. refl, records-alike (suc i) m (omega arith))))
 
-  board-alike : Alike (boardChecks S b) (filedBoardChecks S b)
+  -- what 01 tested before the verdicts, and 22 behind it
+  abbrev twice : Check
+  twice = 22 unless noneTwice (keysIn (S .n) b)
+
+  twice-behind : {A : Type 0} (es : List Check) (a : A) → outcome (boardChecks S b ++ es) a ≡ outcome (filedBoardChecks S b ++ (twice ∷ es)) a
   unfolding boardChecks formChecks boardKeyChecks keyChecks
-  board-alike =
+  twice-behind es a =
       let size = lengthChecks b in
-      let keys = boardKeyChecks S b in
       let own = recordChecks S b 0 (recordsIn b) in
       let filed = filedRecordChecks (S .n) b 0 (recordsIn b) in
-      alike-before (size ++ own) (size ++ filed) keys (alike-behind size own filed (records-alike 0 (recordsIn b) (omega arith)))
+      let keys = boardKeyChecks S b in
+      let before = 12 unless all (hasKey b) (members (S .n)) ∷ filedKeyChecks (S .group) (keysIn (S .n) b) in
+      alike-outcome (((size ++ own) ++ keys) ++ es) (((size ++ filed) ++ keys) ++ es) a
+      (alike-before ((size ++ own) ++ keys) ((size ++ filed) ++ keys) es
+      (alike-before (size ++ own) (size ++ filed) keys (alike-behind size own filed (records-alike 0 (recordsIn b) (omega arith)))))
+      ∙ ap (λ (cs : List Check). outcome cs a) (append-assoc (size ++ filed) keys es ∙ sym (append-assoc (size ++ filed) before (twice ∷ es)))
 
+  -- which changes nothing where the keys are distinct
+  module _ (n : Met (filedBoardChecks S b) → Distinct (keysIn (S .n) b)) where
+    same-outcome : {A : Type 0} (es : List Check) (a : A) → outcome (boardChecks S b ++ es) a ≡ outcome (filedBoardChecks S b ++ es) a
+    same-outcome es a = twice-behind es a ∙ settled-outcome (filedBoardChecks S b) twice es a (λ m. true-distinct (keysIn (S .n) b) (n m))
+
+    filed-before : outcome (boardChecks S b) tt ≡ outcome (filedBoardChecks S b) (tt {0})
+    filed-before =
+        let none : (cs : List Check) → outcome (cs ++ []) tt ≡ outcome cs (tt {0}) = λ cs. ap (λ (l : List Check). outcome l tt) (append-nil cs) in
+        sym (none (boardChecks S b)) ∙ same-outcome [] tt ∙ none (filedBoardChecks S b)
+
+module _ (S : Setting) (P : ProperSetting S) (z : S .round ≡ 0) (o : S .whole ≡ false) (b : List ℕ) (w : OfThen b) where
   filed-verdict : Met (boardChecks S b) → (d : ℕ) → verdictOn judges S b d ≡ verdictOn filedJudges S b d
   unfolding shareAnswer recordAt
   filed-verdict m d =
+      let r = reached S b m in
       same-verdict judges filedJudges S b d (λ i h. filed-share S z o d _ _ _ _ (w i h .0))
-      (λ c. filed-dealing S z o d _ (linesOf b d) (λ i h l. line-record S b P (reached S b m .form) d (i - 1) (omega arith) .3 ∙ z))
+      (λ c. filed-dealing S z o d _ (linesOf b d) (keys-proper (S .group) (keysIn (S .n) b) .0 (r .proper) .distinct)
+      (λ i h l. line-record S b P (r .form) d (i - 1) (omega arith) .3 ∙ z))
 
   abbrev ends : List Verdict → List Check
   ends vs = filedEndChecks (S .t) vs
@@ -209,24 +229,32 @@ module _ (S : Setting) (z : S .round ≡ 0) (o : S .whole ≡ false) (P : Proper
   abbrev product : List Verdict → Element
   product vs = record { 0 = secretsProduct (S .group .p) vs }
 
-  filed-draw : Met (boardChecks S b) ⊎ ((k : ℕ) × FirstUnmet k (boardChecks S b)) → drawIn judges S b ≡ filedDraw S b
-  filed-draw (inl m) =
+  filed-draw : (Met (filedBoardChecks S b) → Distinct (keysIn (S .n) b)) → Met (boardChecks S b) ⊎ ((k : ℕ) × FirstUnmet k (boardChecks S b)) → drawIn judges S b ≡ filedDraw S b
+  filed-draw n (inl m) =
       let verdicts = map-same (verdictOn judges S b) (verdictOn filedJudges S b) (members (S .n)) (All-each (members (S .n)) (filed-verdict m)) in
       let own = verdictsOn filedJudges S b in
       draw-without judges S b (λ i h. w i h .1) (P .t-positive)
       ∙ (λ j. outcome (boardChecks S b ++ ends (verdicts j)) (product (verdicts j)))
-      ∙ alike-outcome (boardChecks S b ++ ends own) (filedBoardChecks S b ++ ends own) (product own)
-      (alike-before (boardChecks S b) (filedBoardChecks S b) (ends own) board-alike)
-  filed-draw (inr u) =
-      let same = sym (alike-outcome (boardChecks S b) (filedBoardChecks S b) (tt {0}) board-alike) in
-      let first = refused-exactly Unit (filedBoardChecks S b) tt (u .0) .0 (same ∙ refused-exactly Unit (boardChecks S b) tt (u .0) .1 (u .1)) in
+      ∙ same-outcome S z b w n (ends own) (product own)
+  filed-draw n (inr u) =
+      let own = verdictsOn filedJudges S b in
       refused-before judges S b (u .0) (u .1)
-      ∙ front-outcome (filedBoardChecks S b) (ends (verdictsOn filedJudges S b)) (u .0) first (product (verdictsOn filedJudges S b))
+      ∙ front-outcome (boardChecks S b) (ends own) (u .0) (u .1) (product own)
+      ∙ same-outcome S z b w n (ends own) (product own)
 
 pub filed-as-before : FiledAsBefore
-filed-as-before S P z o b w =
+filed-as-before S P z o b w n =
     record {
-      before = alike-outcome (boardChecks S b) (filedBoardChecks S b) tt (board-alike S z o P b w);
-      verdict = filed-verdict S z o P b w;
-      draw = filed-draw S z o P b w (decided (boardChecks S b));
+      before = filed-before S z b w n;
+      verdict = filed-verdict S P z o b w;
+      draw = filed-draw S P z o b w n (decided (boardChecks S b));
     }
+
+pub filed-key-twice : FiledKeyTwice
+unfolding drawIn
+filed-key-twice S z b w m T =
+    let rest = drawChecks judges S b in
+    let v = drawValue judges S b in
+    twice-behind S z b w rest v
+    ∙ sym (rest-outcome (filedBoardChecks S b) (twice S z b w ∷ rest) m v)
+    ∙ pick-false (noneTwice (keysIn (S .n) b)) _ _ (twice-key (S .group) (keysIn (S .n) b) T)

@@ -1,6 +1,7 @@
 -- 01 as it was before records had a round's number: word 7 is a spare word like the others, refused by 4, the messages have nothing of the
--- round in them, their digests give exponents by 8 bytes, the last kind is 4, and a stuck dealing is the end. In round 0 every board that
--- was filed with zero in each word 7 and no record of kind 5 is judged as it was then.
+-- round in them, their digests give exponents by 8 bytes, the last kind is 4, two members may have one key, and a stuck dealing is the end.
+-- In round 0 every board that was filed with zero in each word 7 and no record of kind 5 is judged as it was then, unless two of its keys
+-- are equal.
 use mathlib.Core.Path.{_≡_}
 use mathlib.Core.Bool.{Bool, false, not, _&&_}
 use mathlib.Core.List.{List, [], _∷_, _++_}
@@ -8,19 +9,18 @@ use Prim.Native.Nat.{ℕ, zero, suc, _-_, _%_, _<_}
 use lib.ListN.{take}
 use lib.Dec.{leb, eqb}
 use Rattle.words.specs.Choice.{pick}
-use Rattle.words.specs.Lists.{all, map, upFrom}
-use Rattle.words.specs.Checks.{Check, _unless_, Outcome, outcome, Met}
+use Rattle.words.specs.Lists.{Distinct, all, map, upFrom}
+use Rattle.words.specs.Checks.{Check, _unless_, Outcome, refused, outcome, Met}
 use Rattle.words.specs.Bytes.{bigEndian, recordIn, recordsIn, recordAt}
 use Rattle.words.specs.declared.Record.{Record}
 use Rattle.sha256.specs.Hash.{hash}
 use Rattle.group.specs.Element.{isElement, isExponent}
 use Rattle.group.specs.declared.Element.{Element}
-use Rattle.group.specs.declared.Group.{Group}
 use Rattle.sharing.specs.Setting.{ProperSetting, isMember, members}
 use Rattle.sharing.specs.Answer.{degreeProduct}
 use Rattle.sharing.specs.declared.Setting.{Setting}
 use Rattle.records.specs.Layout.{shareKind, addedKind, isKeyRecord, isLineRecord, isOpeningRecord, isShareRecord, dealerOf, memberOf, ZOf, shareC, shareR, entry, recordOf}
-use Rattle.records.specs.Keys.{isKey}
+use Rattle.records.specs.Claims.{KeyTwice, filedKeyChecks}
 use Rattle.challenge.specs.Message.{dealingTag, shareTag, coefficientTag, dealingFigures, shareFigures, coefficientFigures, roundlessMessage}
 use Rattle.equality.specs.Equality.{announced}
 use Rattle.dealing.specs.Dealing.{addressChecks, judgeSizeChecks, isLineOf, vIn, YIn, rIn, cIn, vsIn, rangeChecks}
@@ -47,9 +47,6 @@ filedRecordChecks n b i (suc m) =
     ∷ 4 unless eqb (recordAt b i .w7) 0
     ∷ 5 unless inOrder b i
     ∷ filedRecordChecks n b (suc i) m
-
-abbrev pub filedKeyChecks : Group → List ℕ → List Check
-filedKeyChecks G ys = 6 unless all (isKey G) ys ∷ []
 
 abbrev pub filedBoardChecks : Setting → List ℕ → List Check
 filedBoardChecks S b =
@@ -121,7 +118,11 @@ filedDraw S b =
     let vs = verdictsOn filedJudges S b in
     outcome (filedBoardChecks S b ++ filedEndChecks (S .t) vs) (record { 0 = secretsProduct (S .group .p) vs })
 
--- ---- the claim, under the old rule, which is that of round 0 whatever the first round under the new one is
+-- ---- the claims
+-- a board of then: zero in each word 7, and no record of kind 5
+abbrev pub OfThen : List ℕ → Type 0
+OfThen b = (i : ℕ) → i < recordsIn b → (recordAt b i .w7 ≡ 0) × (recordAt b i .w0 ≡ addedKind → ⊥)
+
 pub record FiledBoard (S : Setting) (b : List ℕ) : Type 0 where
   -- before the verdicts
   pub before : outcome (boardChecks S b) tt ≡ outcome (filedBoardChecks S b) (tt {0})
@@ -130,7 +131,15 @@ pub record FiledBoard (S : Setting) (b : List ℕ) : Type 0 where
   -- the draw value, or the number by which there is none
   pub draw : drawIn judges S b ≡ filedDraw S b
 
+-- a board whose keys are distinct, or that 01 refused before the verdicts, is judged as it was then, under the old rule, which is that of
+-- round 0 whatever the first round under the new one is
 abbrev pub FiledAsBefore : Type 0
 FiledAsBefore =
-    (S : Setting) → ProperSetting S → S .round ≡ 0 → S .whole ≡ false
-    → (b : List ℕ) → ((i : ℕ) → i < recordsIn b → (recordAt b i .w7 ≡ 0) × (recordAt b i .w0 ≡ addedKind → ⊥)) → FiledBoard S b
+    (S : Setting) → ProperSetting S → S .round ≡ 0 → S .whole ≡ false → (b : List ℕ) → OfThen b
+    → (Met (filedBoardChecks S b) → Distinct (keysIn (S .n) b)) → FiledBoard S b
+
+-- every other one, which has two equal keys and was let through to the verdicts, is refused by 22
+abbrev pub FiledKeyTwice : Type 0
+FiledKeyTwice =
+    (S : Setting) → S .round ≡ 0 → (b : List ℕ) → OfThen b → Met (filedBoardChecks S b) → KeyTwice (S .group) (keysIn (S .n) b)
+    → drawIn judges S b ≡ refused 22

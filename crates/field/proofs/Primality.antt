@@ -13,7 +13,7 @@ use lib.Dec.{T, ltb, ltb→lt}
 use Rattle.words.specs.Choice.{pick}
 use Rattle.words.specs.Lists.{All, all, upFrom}
 use Rattle.words.proofs.Lists.{up-each, each-up}
-use Rattle.words.proofs.Tests.{and-true, true-and, all-true, true-all}
+use Rattle.words.proofs.Tests.{refuted, and-true, true-and, all-true, true-all}
 use Rattle.field.specs.Prime.{Prime, divides, isPrime, undivided}
 use Rattle.field.specs.Claims.{PrimeExactly, TrialDivision}
 
@@ -43,10 +43,6 @@ prime-exactly m = (sound m, complete m)
 -- what is not prime does not pass
 pub not-prime : (m : ℕ) → (Prime m → ⊥) → isPrime m ≡ false
 not-prime m h = refuted (isPrime m) (λ e. h (sound m e))
-  where
-    refuted : (b : Bool) → (b ≡ true → ⊥) → b ≡ false
-    refuted true n = absurd (n refl)
-    refuted false n = refl
 
 -- ---- an odd number m below the square of s that no odd number below s divides
 -- no odd number above 1 and below s divides m

@@ -1,3 +1,4 @@
--- The proofs of the figures in specs/ByHand.antt and specs/OwnTable.antt.
+-- The proofs of the figures in specs/.
 pub mod ByHand
 pub mod OwnTable
+pub mod EqualKeys

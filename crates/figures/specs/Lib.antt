@@ -1,3 +1,4 @@
--- The scope paper's figures by hand as one table, and a table of one's own in figures.
+-- The scope paper's figures by hand as one table, a table of one's own in figures, and equal keys.
 pub mod ByHand
 pub mod OwnTable
+pub mod EqualKeys

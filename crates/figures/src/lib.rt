@@ -1,1 +1,2 @@
-// The figures by hand of the scope paper. This crate has no function: specs/ByHand.antt is the table, proofs/ByHand.antt proves it.
+// Figures: those by hand of the scope paper, a table of groups of one's own, and equal keys. This crate has no function: the figures are
+// in specs/, and proofs/ computes them.

@@ -8,12 +8,12 @@ use lib.ListN.{length, take}
 use lib.Seq.{take-take, length-take-le}
 use Rattle.words.specs.Lists.{All, absent, upFrom}
 use Rattle.words.proofs.Lists.{All-to, All-both, All-take, Pairwise-to, Pairwise-take, up-length, up-within, up-distinct}
-use Rattle.words.proofs.Tests.{false-true}
+use Rattle.words.proofs.Tests.{false-true, equal-or-not, absent-first, absent-behind, absent-more}
 use Rattle.plots.specs.Rank.{rank, comesBefore}
 use Rattle.plots.specs.Picked.{sorted, picked}
 use Rattle.plots.specs.Claims.{StrictOrder, Ordered, IsPick, PickedExactly, PickedStart}
 use Rattle.plots.proofs.Order.{plots-order}
-use Rattle.plots.proofs.Presence.{first-or-not, absent-first, absent-behind, present-more, absent-more, present-all, up-present}
+use Rattle.plots.proofs.Presence.{present-more, present-all, up-present}
 use Rattle.plots.proofs.Sorting.{sorted-length, sorted-all, sorted-absent, sorted-ordered}
 
 module _ {before : ℕ → ℕ → Bool} (O : StrictOrder before) where
@@ -40,7 +40,7 @@ module _ {before : ℕ → ℕ → Bool} (O : StrictOrder before) where
 
   leads-first : (l x : ℕ) (L xs : List ℕ) → Ordered before (l ∷ L) → Ordered before (x ∷ xs) → absent x (l ∷ L) ≡ false → Leads (l ∷ L) (x ∷ xs) → x ≡ l
   leads-first l x L xs o q i c =
-      first-or-not x l (λ e. e)
+      equal-or-not x l (λ e. e)
       (λ n. absurd (never-both (present-all (λ (y : ℕ). before l y ≡ true) x L (sym (absent-behind x l L n) ∙ i) (o .0)) (by-test n (absent l xs) refl)))
     where
       by-test : (x ≡ l → ⊥) → (t : Bool) → absent l xs ≡ t → before x l ≡ true

@@ -1,3 +1,4 @@
 -- Laws that the functions' proofs, here and above, share.
 pub mod Members
 pub mod Posted
+pub mod ProperKeys

@@ -4,13 +4,14 @@ use mathlib.Core.Bool.{Bool, true, false, not}
 use mathlib.Core.List.{List}
 use mathlib.Core.Logic.{_↔_}
 use Prim.Native.Nat.{ℕ, _+_, _-_, _≤_, _<_}
+use native.Mathlib.Decide.{decLt}
 use native.Mathlib.Omega.{arith}
 use borrow.Author.Tests.{leb-true, le-leb}
 use lib.ListN.{length, getD, take, drop, set}
 use lib.Dec.{leb, eqb}
-use Rattle.words.specs.Lists.{All, map, all, filled}
-use Rattle.words.proofs.Lists.{All-at, up-length, up-at, up-each, each-up, run-front, run-next}
-use Rattle.words.proofs.Tests.{false-true, and-true, true-and, all-true, true-all, all-next, all-stop, all-end}
+use Rattle.words.specs.Lists.{All, Distinct, map, all, filled}
+use Rattle.words.proofs.Lists.{All-at, Pairwise-at, map-length, map-at, up-length, up-at, up-each, each-up, run-front, run-next}
+use Rattle.words.proofs.Tests.{false-true, refuted, and-true, true-and, all-true, true-all, all-next, all-stop, all-end}
 use Rattle.group.specs.Element.{isElement, isGenerator}
 use Rattle.group.specs.declared.Group.{Group}
 use Rattle.sharing.specs.Setting.{isMember, members}
@@ -32,11 +33,7 @@ members-exactly f n =
 
 -- the test of all fails where it fails of one
 pub members-false : (f : ℕ → Bool) (n i : ℕ) → 1 ≤ i → i ≤ n → f i ≡ false → all f (members n) ≡ false
-members-false f n i h l e = by-value (all f (members n)) refl
-  where
-    by-value : (b : Bool) → all f (members n) ≡ b → all f (members n) ≡ false
-    by-value true s = absurd (false-true (sym e ∙ members-exactly f n .0 s i h l))
-    by-value false s = s
+members-false f n i h l e = refuted (all f (members n)) (λ s. false-true (sym e ∙ members-exactly f n .0 s i h l))
 
 -- ---- members by index, from 0
 module _ (n k : ℕ) (h : k < n) where
@@ -45,6 +42,26 @@ module _ (n k : ℕ) (h : k < n) where
 
   pub number-at : getD (members n) k 0 ≡ k + 1
   number-at = up-at 1 n k h ∙ omega arith
+
+  -- the figure of each, in the list of their figures
+  figure-at : (f : ℕ → ℕ) → getD (map f (members n)) k 0 ≡ f (k + 1)
+  figure-at f = map-at f (members n) k 0 0 index-within ∙ ap f number-at
+
+-- where no two figures are equal, two members with one figure are one
+pub members-own : (f : ℕ → ℕ) (n : ℕ) → Distinct (map f (members n)) → (i j : ℕ) → 1 ≤ i → i ≤ n → 1 ≤ j → j ≤ n → f i ≡ f j → i ≡ j
+members-own f n d = λ i j h k g l e.
+    elim (decLt i j) [
+      | yes u ↦ absurd (apart i j h u l e)
+      | no u ↦ elim (decLt j i) [ yes v ↦ absurd (apart j i g v k (sym e)) | no v ↦ omega arith ]
+    ]
+  where
+    at : (i : ℕ) → 1 ≤ i → i ≤ n → getD (map f (members n)) (i - 1) 0 ≡ f i
+    at i h k = let e : i - 1 + 1 ≡ i = omega arith in figure-at n (i - 1) (omega arith) f ∙ ap f e
+
+    apart : (i j : ℕ) → 1 ≤ i → i < j → j ≤ n → f i ≡ f j → ⊥
+    apart i j h u l e =
+        Pairwise-at (λ x y. x ≡ y → ⊥) (map f (members n)) (i - 1) (j - 1) 0 (omega arith)
+        (omega (arith, map-length f (members n), up-length 1 n)) d (at i h (omega arith) ∙ e ∙ sym (at j (omega arith) l))
 
 -- ---- a loop that tests every member: all pass exactly if those from index k on do
 module _ (f : ℕ → Bool) (n k : ℕ) (e : all f (members n) ≡ all f (drop k (members n))) where

@@ -3,7 +3,7 @@ use mathlib.Core.Bool.{Bool, _&&_}
 use mathlib.Core.List.{List, [], _∷_}
 use Prim.Native.Nat.{ℕ}
 use lib.Dec.{leb, ltb}
-use Rattle.words.specs.Lists.{all}
+use Rattle.words.specs.Lists.{all, noneTwice}
 use Rattle.words.specs.Checks.{Check, _unless_}
 use Rattle.group.specs.Element.{isGenerator}
 use Rattle.group.specs.declared.Group.{Group}
@@ -16,6 +16,6 @@ isKey G y = isGenerator G y
 unfoldable pub isSecretKey : Group → ℕ → Bool
 isSecretKey G x = leb 1 x && ltb x (G .q)
 
--- the keys of all members, on a board or lent
+-- the keys of all members, on a board or lent: 6 a number that is no key, 22 two equal keys
 unfoldable pub keyChecks : Group → List ℕ → List Check
-keyChecks G ys = 6 unless all (isKey G) ys ∷ []
+keyChecks G ys = 6 unless all (isKey G) ys ∷ 22 unless noneTwice ys ∷ []

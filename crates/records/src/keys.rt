@@ -8,6 +8,7 @@ use group::Element;
 use group::Exponent;
 use group::Group;
 use group::is_generator;
+use words::none_twice;
 
 // A key: an element that is not 1.
 pub fn is_key(gr: Group, y: Element) -> bool
@@ -29,12 +30,15 @@ pub fn all_keys(gr: Group, ys: &[u32]) -> bool
     true
 }
 
-// The number by which the members' keys are refused, 0 where they are not: 6 a number that is no key.
+// The number by which the members' keys are refused, 0 where they are not: 6 a number that is no key; 22 two equal keys.
 pub fn keys_refusal(gr: Group, ys: &[u32]) -> u32
     ensures { λ r. ⌜ r ≡ refusal (keyChecks gr (now (ys .entry))) ⌝ }
 {
     if !all_keys(gr, ys) {
         return 6;
+    }
+    if !none_twice(ys) {
+        return 22;
     }
     0
 }

@@ -149,7 +149,7 @@ fn refused_board(k: u32) -> Judgement
     }
 }
 
-// Judges a board. Refused, with no verdict: as setting_of; 3, 4, 17, 5, 12 and 6 as board_refusal_in. After all verdicts: 14
+// Judges a board. Refused, with no verdict: as setting_of; 3, 4, 17, 5, 12, 6 and 22 as board_refusal_in. After all verdicts: 14
 // fewer than t accepted dealings; 13 a stuck dealing, where fewer than t added shares are accepted.
 pub fn judge_board(table: &[u8], rd: Round, b: &[u8]) -> Judgement
     ensures { λ r. ⌜ JudgementOf judges (now (table .entry)) rd (now (b .entry)) r ⌝ }

@@ -55,6 +55,12 @@ module _ {A : Type 0} where
   Pairwise-take R (suc k) [] p = tt
   Pairwise-take R (suc k) (x ∷ xs) p = (All-take (R x) k xs (p .0), Pairwise-take R k xs (p .1))
 
+  pub Pairwise-at : (R : A → A → Type 0) (xs : List A) (i j : ℕ) (d : A) → i < j → j < length xs → Pairwise R xs → R (getD xs i d) (getD xs j d)
+  Pairwise-at R [] i j d h l p = absurd (not-suc-le-zero l)
+  Pairwise-at R (x ∷ xs) i zero d h l p = absurd (not-suc-le-zero h)
+  Pairwise-at R (x ∷ xs) zero (suc j) d h l p = All-at (R x) xs j d (le-of-suc-le-suc l) (p .0)
+  Pairwise-at R (x ∷ xs) (suc i) (suc j) d h l p = Pairwise-at R xs i j d (le-of-suc-le-suc h) (le-of-suc-le-suc l) (p .1)
+
 -- ---- a part of a part
 pub part-part : {A : Type 0} (m k n : ℕ) (xs : List A) → k + m ≤ n → take m (drop k (take n xs)) ≡ take m (drop k xs)
 part-part m zero n xs h = take-take m n xs (omega arith)

@@ -12,6 +12,7 @@ use Rattle.words.specs.Lists.{all}
 use Rattle.words.specs.Checks.{Check, Outcome, value, refused, refusal, outcome, Met, FirstUnmet, ifMet}
 use Rattle.words.specs.Claims.{StagesNumber, StagesOutcome, StagesChoice, StagesMet}
 use Rattle.words.proofs.Lists.{All-append, All-parts}
+use Rattle.words.proofs.Tests.{pick-true, pick-same}
 use Rattle.words.proofs.Checks.{if-met, if-unmet, first-number, value-met, refused-exactly, none-exactly, first-exactly, numbered}
 
 -- ---- the claims
@@ -82,6 +83,12 @@ module _ (cs ds : List Check) (k : ℕ) (u : FirstUnmet k cs) where
 
   pub front-choice : {A : Type 0} (a b : A) → b ≡ ifMet (cs ++ ds) a b
   front-choice {A} a b = sym (stages-choice A cs ds a b ∙ if-unmet (ifMet ds a b) b cs k u)
+
+-- ---- a check that holds where all before it do: without it the answer is the same
+pub settled-outcome : {A : Type 0} (cs : List Check) (c : Check) (ds : List Check) (a : A) → (Met cs → c .met ≡ true)
+    → outcome (cs ++ (c ∷ ds)) a ≡ outcome (cs ++ ds) a
+settled-outcome [] c ds a h = pick-true (c .met) _ _ (h tt)
+settled-outcome (k ∷ cs) c ds a h = pick-same (k .met) _ _ _ (λ e. settled-outcome cs c ds a (λ m. h (e, m)))
 
 -- ---- a stage by the number k that its function answers
 module _ (cs : List Check) {k : ℕ} (e : k ≡ refusal cs) where

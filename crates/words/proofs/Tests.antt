@@ -6,16 +6,20 @@ use mathlib.Core.List.{List, [], _∷_}
 use Prim.Native.Nat.{ℕ, zero, suc, _+_, _<_}
 use native.Mathlib.Nat.{le-of-suc-le-suc, not-suc-le-zero}
 use native.Mathlib.Omega.{arith}
-use borrow.Author.Tests.{eq-eqb, ne-eqb, eqb-true, not-true, not-false}
+use borrow.Author.Tests.{eq-eqb, ne-eqb, eqb-true, eqb-false, not-true, not-false}
 use lib.ListN.{length, getD, take, drop}
 use lib.Seq.{drop-length}
 use lib.Dec.{eqb}
 use Rattle.words.specs.Choice.{pick}
 use Rattle.words.specs.Lists.{All, Distinct, map, all, absent, noneTwice}
-use Rattle.words.proofs.Lists.{drop-next}
+use Rattle.words.proofs.Lists.{Pairwise-at, drop-next}
 
 pub false-true : false ≡ true → ⊥
 false-true e = let z : _≡_ {A = ℕ} 0 1 = cc in omega arith
+
+pub refuted : (b : Bool) → (b ≡ true → ⊥) → b ≡ false
+refuted true n = absurd (n refl)
+refuted false n = refl
 
 -- a test b, by the answer r of the function that makes it
 module _ {r b : Bool} (e : r ≡ b) where
@@ -32,6 +36,11 @@ and-true false b e = absurd (false-true e)
 
 pub true-and : (a b : Bool) → a ≡ true → b ≡ true → a && b ≡ true
 true-and a b e f = ap (λ (x : Bool). x && b) e ∙ f
+
+-- it fails, by the part that does
+either-false : {P : Type 0} (a b : Bool) → a && b ≡ false → (a ≡ false → P) → (b ≡ false → P) → P
+either-false true b e f g = g e
+either-false false b e f g = f refl
 
 -- two equations
 module _ (a b x y : ℕ) where
@@ -56,6 +65,11 @@ module _ {A : Type 0} (b : Bool) (x y : A) where
 
   pub pick-false : b ≡ false → pick b x y ≡ y
   pick-false e = ap (λ (c : Bool). pick c x y) e
+
+-- what is chosen where the test holds is the same
+pub pick-same : {A : Type 0} (b : Bool) (x y z : A) → (b ≡ true → x ≡ y) → pick b x z ≡ pick b y z
+pick-same true x y z h = h refl
+pick-same false x y z h = refl
 
 -- ---- a test of every element
 module _ {A : Type 0} (f : A → Bool) where
@@ -93,26 +107,73 @@ module _ {A : Type 0} (f : A → Bool) where
   pub all-end : (xs : List A) (i : ℕ) → i ≡ length xs → all f (drop i xs) ≡ true
   all-end xs i e = rw (e, drop-length)
 
+-- ---- two numbers: equal or not
+pub equal-or-not : {P : Type 0} (x y : ℕ) → (x ≡ y → P) → ((x ≡ y → ⊥) → P) → P
+equal-or-not {P} x y f g = by-test (eqb x y) refl
+  where
+    by-test : (t : Bool) → eqb x y ≡ t → P
+    by-test true e = f (eqb-true x y e)
+    by-test false e = g (eqb-false x y e)
+
 -- ---- a number that is not in a list
 module _ (x : ℕ) where
-  pub true-absent : (l : List ℕ) → All (λ y. x ≡ y → ⊥) l → absent x l ≡ true
+  -- by whether it is the first
+  module _ (y : ℕ) (l : List ℕ) where
+    pub absent-first : x ≡ y → absent x (y ∷ l) ≡ false
+    absent-first e = pick-true (eqb x y) _ _ (eq-eqb x y e)
+
+    pub absent-behind : (x ≡ y → ⊥) → absent x (y ∷ l) ≡ absent x l
+    absent-behind n = pick-false (eqb x y) _ _ (ne-eqb x y n)
+
+    pub absent-more : absent x (y ∷ l) ≡ true → (x ≡ y → ⊥) × (absent x l ≡ true)
+    absent-more e =
+        let n : x ≡ y → ⊥ = λ f. false-true (sym (absent-first f) ∙ e) in
+        (n, sym (absent-behind n) ∙ e)
+
+  absent-true : (l : List ℕ) → absent x l ≡ true → All (λ y. x ≡ y → ⊥) l
+  absent-true [] e = tt
+  absent-true (y ∷ l) e = let s = absent-more y l e in (s .0, absent-true l (s .1))
+
+  -- it is, at some place
+  false-absent : (l : List ℕ) → absent x l ≡ false → (j : ℕ) × (j < length l) × (x ≡ getD l j 0)
+  false-absent [] e = absurd (false-true (sym e))
+  false-absent (y ∷ l) e =
+      equal-or-not x y (λ f. (0, omega arith, f))
+      (λ n. let s = false-absent l (sym (absent-behind y l n) ∙ e) in (suc (s .0), omega (arith, s .1), s .2))
+
+  true-absent : (l : List ℕ) → All (λ y. x ≡ y → ⊥) l → absent x l ≡ true
   true-absent [] h = refl
-  true-absent (y ∷ l) h = pick-false (eqb x y) _ _ (ne-eqb x y (h .0)) ∙ true-absent l (h .1)
+  true-absent (y ∷ l) h = absent-behind y l (h .0) ∙ true-absent l (h .1)
 
   module _ (l : List ℕ) (i : ℕ) (h : i < length l) where
     pub absent-next : (x ≡ getD l i 0 → ⊥) → absent x (drop i l) ≡ absent x (drop (i + 1) l)
-    absent-next n = rw (drop-next l i 0) (pick-false (eqb x (getD l i 0)) _ _ (ne-eqb x (getD l i 0) n))
+    absent-next n = rw (drop-next l i 0) (absent-behind (getD l i 0) (drop (i + 1) l) n)
 
     pub absent-stop : x ≡ getD l i 0 → absent x (drop i l) ≡ false
-    absent-stop e = rw (drop-next l i 0) (pick-true (eqb x (getD l i 0)) _ _ (eq-eqb x (getD l i 0) e))
+    absent-stop e = rw (drop-next l i 0) (absent-first (getD l i 0) (drop (i + 1) l) e)
 
   pub absent-end : (l : List ℕ) (i : ℕ) → i ≡ length l → absent x (drop i l) ≡ true
   absent-end l i e = rw (e, drop-length)
 
 -- ---- no number twice
+pub distinct-true : (l : List ℕ) → noneTwice l ≡ true → Distinct l
+distinct-true [] e = tt
+distinct-true (x ∷ l) e = let s = and-true (absent x l) (noneTwice l) e in (absent-true x l (s .0), distinct-true l (s .1))
+
 pub true-distinct : (l : List ℕ) → Distinct l → noneTwice l ≡ true
 true-distinct [] d = refl
 true-distinct (x ∷ l) d = true-and (absent x l) (noneTwice l) (true-absent x l (d .0)) (true-distinct l (d .1))
+
+-- the numbers at two places are equal
+pub false-twice : (l : List ℕ) → noneTwice l ≡ false → (i j : ℕ) × (i < j) × (j < length l) × (getD l i 0 ≡ getD l j 0)
+false-twice [] e = absurd (false-true (sym e))
+false-twice (x ∷ l) e =
+    either-false (absent x l) (noneTwice l) e
+    (λ f. let s = false-absent x l f in (0, suc (s .0), omega arith, omega (arith, s .1), s .2))
+    (λ f. let s = false-twice l f in (suc (s .0), suc (s .1), omega (arith, s .2), omega (arith, s .3), s .4))
+
+pub twice-false : (l : List ℕ) (i j : ℕ) → i < j → j < length l → getD l i 0 ≡ getD l j 0 → noneTwice l ≡ false
+twice-false l i j h k e = refuted (noneTwice l) (λ t. Pairwise-at (λ x y. x ≡ y → ⊥) l i j 0 h k (distinct-true l t) e)
 
 module _ (l : List ℕ) (i : ℕ) (h : i < length l) where
   pub twice-next : absent (getD l i 0) (drop (i + 1) l) ≡ true → noneTwice (drop i l) ≡ noneTwice (drop (i + 1) l)

@@ -1,8 +1,12 @@
-// Words and records of bytes, as every figure of a board is posted.
+// Words and records of bytes, as every figure of a board is posted, and lists of words.
 ghost use mathlib.Core.Path.{_≡_};
 ghost use Prim.Native.Nat.{_+_, _*_, _≤_};
 ghost use lib.ListN.{length};
 ghost use Rattle.words.specs.Bytes.{word, wordAt, wordBytes, putAt, recordIn, recordAt, recordBytes, agrees};
+
+mod distinct;
+
+pub use distinct::none_twice;
 
 // Eight words: a record of a board, or a digest.
 pub struct Record {

@@ -85,6 +85,7 @@ pub fn case(message: &[u8]) -> Vec<u8> {
 mod tests {
     use super::*;
     use crate::draw;
+    use crate::vectors::equal;
 
     /// The lines of the text of a round's files.
     fn lines(source: &str) -> Vec<String> {
@@ -113,6 +114,31 @@ mod tests {
         assert!(added.last().unwrap().starts_with("draw "));
         assert_eq!(added.last(), opened.last());
         assert!(Source::named("other").is_none());
+    }
+
+    /// The boards that the bench times have distinct keys and are drawn.
+    #[test]
+    fn distinct_keys() {
+        let large = table_named("large").unwrap();
+        let sizes = [
+            (1, 1),
+            (2, 1),
+            (4, 2),
+            (8, 4),
+            (16, 8),
+            (31, 1),
+            (31, 16),
+            (31, 31),
+        ];
+        for (n, t) in sizes {
+            for figures in [Figures::of(3, n, t), Figures::of(8, n, t).with_table(large)] {
+                let Round { set, board } = round(figures, Source::Opened);
+                let keys = equal::on_board(figures.table, &set, &board);
+                assert_eq!(equal::pair(&keys.unwrap().1), None);
+                let text = draw::text(figures.table, &set, &board);
+                assert!(text.contains("\ndraw "));
+            }
+        }
     }
 
     /// A round with the table of large groups has its file, and is drawn in the last of them.

@@ -108,18 +108,18 @@ pub fn dealer_lines<'a>(figures: Lent, dealer: u32, bytes: &'a [u8]) -> &'a [u8]
     }
 }
 
-/// The members' keys of a board of proper form: 12 a key missing; 6 a bad key.
+/// The members' keys of a board of proper form: 12 a key missing; 6 a bad key; 22 two equal ones.
 fn keys(round: &Round, bytes: &[u8]) -> Answer<Vec<u32>> {
     let records = bytes.chunks_exact(SIZE).map(record::read);
     let keys: Vec<u32> = records.filter(|r| r[0] == KEY).map(|r| r[3]).collect();
     // Their members ascend strictly from 1 to n, so that n of them are one for each.
     require(keys.len() == round.n as usize, 12)?;
-    require(round.group.all_keys(&keys), 6)?;
+    round.check_keys(&keys)?;
     Ok(keys)
 }
 
-/// The operation: the table's numbers; 1, 2; 3; record by record 4, 17 and 5; 12; 6. Where these refuse nothing it answers
-/// what it judges.
+/// The operation: the table's numbers; 1, 2; 3; record by record 4, 17 and 5; 12; 6; 22. Where these refuse nothing it
+/// answers what it judges.
 #[cfg(test)]
 pub fn judge_board(figures: Lent, bytes: &[u8]) -> Answer<Judged> {
     judge(figures.round()?, bytes)
@@ -355,6 +355,31 @@ mod tests {
         assert_eq!(refusal(&records), Some(3));
         assert_eq!(judge_board(FIGURES, &[0; 31]).err(), Some(3));
         assert_eq!(refusal(&[]), Some(12));
+    }
+
+    /// Each two keys, with the lines of the board and without. A bad one counts before, and so does one that is missing. A
+    /// dealer's lines are the same.
+    #[test]
+    fn equal_keys() {
+        for (i, j) in [(0, 1), (1, 2), (2, 3), (0, 3), (0, 2), (1, 3)] {
+            let mut records = everything();
+            records[j][3] = records[i][3];
+            assert_eq!(refusal(&records), Some(22));
+            assert_eq!(refusal(&records[..4]), Some(22));
+            let board = record::bytes(records.clone());
+            assert_eq!(lines_check(FIGURES, 3, &board), Ok(()));
+            assert_eq!(dealer_lines(FIGURES, 3, &board).len(), SIZE * 4);
+            records[i][3] = 1;
+            assert_eq!(refusal(&records), Some(6));
+            records.remove(0);
+            assert_eq!(refusal(&records), Some(12));
+        }
+        let mut records = everything();
+        records[1][3] = records[0][3];
+        records.remove(3);
+        assert_eq!(refusal(&records), Some(12));
+        records[6][7] = 1;
+        assert_eq!(refusal(&records), Some(17));
     }
 
     /// A board is judged in its own round as the same in round 0, and in no other.

@@ -8,7 +8,8 @@ use crate::record::{self, has_form, Record, LINE, SIZE};
 use crate::round::{Lent, Round};
 use crate::sharing::degree_product;
 
-/// The operation: the table's numbers; 1, 2; 8 dealer; 3 other than n keys, t coefficients, n nonces or 32n bytes; 6 a key; 7.
+/// The operation: the table's numbers; 1, 2; 8 dealer; 3 other than n keys, t coefficients, n nonces or 32n bytes; 6 a key;
+/// 22 two equal keys; 7.
 pub fn write_dealing(
     figures: Lent,
     dealer: u32,
@@ -18,16 +19,28 @@ pub fn write_dealing(
     out: &mut [u8],
 ) -> Answer<()> {
     let round = figures.round()?;
+    write(&round, dealer, keys, coefficients, nonces, out)
+}
+
+/// The same of a round whose figures are judged.
+pub fn write(
+    round: &Round,
+    dealer: u32,
+    keys: &[u32],
+    coefficients: &[u32],
+    nonces: &[u32],
+    out: &mut [u8],
+) -> Answer<()> {
     let (n, t) = (round.n as usize, round.t as usize);
     require(round.has_member(dealer), 8)?;
     require(keys.len() == n && coefficients.len() == t, 3)?;
     require(nonces.len() == n && out.len() == SIZE * n, 3)?;
-    require(round.group.all_keys(keys), 6)?;
+    round.check_keys(keys)?;
     require(round.group.all_exponents(coefficients), 7)?;
     require(round.group.all_exponents(nonces), 7)?;
     let value = |i| value_at(coefficients, i, round.group.q);
     let exponents: Vec<u32> = (1..=round.n).map(value).collect();
-    deal(&round, dealer, keys, &exponents, nonces, out);
+    deal(round, dealer, keys, &exponents, nonces, out);
     Ok(())
 }
 
@@ -57,7 +70,8 @@ pub fn deal(
     }
 }
 
-/// The operation: the table's numbers; 1, 2; 8; 3 other than n keys or 32n bytes; 6 a key; 4; 17; 6 v or Y; 7 r or c; 9; 10.
+/// The operation: the table's numbers; 1, 2; 8; 3 other than n keys or 32n bytes; 6 a key; 22 two equal keys; 4; 17; 6 v or Y;
+/// 7 r or c; 9; 10.
 pub fn judge_dealing(figures: Lent, dealer: u32, keys: &[u32], bytes: &[u8]) -> Answer<()> {
     judge(&figures.round()?, dealer, keys, bytes)
 }
@@ -68,7 +82,7 @@ pub fn judge(round: &Round, dealer: u32, keys: &[u32], bytes: &[u8]) -> Answer<(
     let n = round.n as usize;
     require(round.has_member(dealer), 8)?;
     require(keys.len() == n && bytes.len() == SIZE * n, 3)?;
-    require(group.all_keys(keys), 6)?;
+    round.check_keys(keys)?;
     let lines: Vec<Record> = bytes.chunks_exact(SIZE).map(record::read).collect();
     for (member, line) in (1..).zip(&lines) {
         require(has_form(line) && line[..3] == [LINE, dealer, member], 4)?;
@@ -219,5 +233,50 @@ mod tests {
         let mut lines = [7; 128];
         let answer = write_dealing(FIGURES, 5, &keys(), &[3, 5], &[0; 4], &mut lines);
         assert_eq!((answer, lines), (Err(8), [7; 128]));
+    }
+
+    /// Each two keys, in round 0 and in others. Bad ones count before, and exponents and lines after.
+    #[test]
+    fn equal_keys_are_refused() {
+        for (i, j) in [(0, 1), (1, 2), (2, 3), (0, 3), (0, 2), (1, 3)] {
+            let mut equal = keys();
+            equal[j] = equal[i];
+            let mut bad = equal;
+            bad[i] = 1;
+            for round in ROUNDS {
+                let figures = FIGURES.with_round(round);
+                for (keys, number) in [(equal, 22), (bad, 6)] {
+                    let mut lines = written(round);
+                    let before = lines;
+                    let answer = write_dealing(figures, 3, &keys, &[3, 5], &[0; 4], &mut lines);
+                    assert_eq!((answer, lines), (Err(number), before));
+                    let answer = write_dealing(figures, 3, &keys, &[3, 5], &[!0; 4], &mut lines);
+                    assert_eq!((answer, lines), (Err(number), before));
+                    assert_eq!(judge_dealing(figures, 3, &keys, &lines), Err(number));
+                    assert_eq!(judge_dealing(figures, 3, &keys, &[0; 128]), Err(number));
+                    assert_eq!(judge_dealing(figures, 3, &keys, &lines[1..]), Err(3));
+                }
+            }
+        }
+    }
+
+    /// As before keys had to be distinct the same lines are accepted that `deal` writes.
+    #[test]
+    fn equal_keys_as_before() {
+        let round = FIGURES.round().unwrap().with_equal_keys();
+        let keys = [9; 4];
+        let (mut lines, mut dealt) = ([0; 128], [0; 128]);
+        let answer = write(&round, 3, &keys, &[3, 5], &[1, 2, 3, 4], &mut lines);
+        deal(
+            &round,
+            3,
+            &keys,
+            &[8, 13, 18, 23],
+            &[1, 2, 3, 4],
+            &mut dealt,
+        );
+        assert_eq!((answer, lines), (Ok(()), dealt));
+        assert_eq!(judge(&round, 3, &keys, &lines), Ok(()));
+        assert_eq!(judge_dealing(FIGURES, 3, &keys, &lines), Err(22));
     }
 }

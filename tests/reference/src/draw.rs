@@ -3,7 +3,7 @@
 use crate::answer::{require, Answer};
 use crate::board::{self, Judged, Secret, Verdict};
 use crate::record::{self, Record, SIZE};
-use crate::round::{Figures, Lent};
+use crate::round::{Figures, Lent, Round};
 use crate::table;
 use std::fs::File;
 use std::io::Read;
@@ -40,13 +40,24 @@ fn read_set(bytes: &[u8]) -> Answer<Figures> {
 
 /// The text: the table is judged first, then the set, then the board.
 pub fn text(table: &[u8], set: &[u8], board: &[u8]) -> String {
-    reported(table, set, board).unwrap_or_else(refused)
+    reported(table, set, board, |round| round).unwrap_or_else(refused)
 }
 
-fn reported(table: &[u8], set: &[u8], board: &[u8]) -> Answer<String> {
+/// The text as it was before keys had to be distinct.
+pub fn text_with_equal_keys(table: &[u8], set: &[u8], board: &[u8]) -> String {
+    reported(table, set, board, Round::with_equal_keys).unwrap_or_else(refused)
+}
+
+/// `as_judged` is how the round is judged by now, or as before.
+fn reported(
+    table: &[u8],
+    set: &[u8],
+    board: &[u8],
+    as_judged: fn(Round) -> Round,
+) -> Answer<String> {
     let table = table::judge(table)?;
     let figures = read_set(set)?;
-    let judged = board::judge(figures.round_of(&table)?, board)?;
+    let judged = board::judge(as_judged(figures.round_of(&table)?), board)?;
     Ok(report(figures, &judged))
 }
 
@@ -99,7 +110,7 @@ pub fn text_of(folder: &Path) -> String {
 #[cfg(test)]
 mod tests {
     use super::*;
-    use crate::example::{of_keys_alone, Round};
+    use crate::example::{self, of_keys_alone};
     use crate::round::FOUR;
 
     #[test]
@@ -126,7 +137,7 @@ mod tests {
 
     #[test]
     fn the_set_is_judged_first() {
-        let Round { mut set, board } = of_keys_alone();
+        let example::Round { mut set, board } = of_keys_alone();
         assert_eq!(text(&[], &set, &board[1..]), "refused 3\n");
         assert_eq!(text(&[], &set, &[]), "refused 12\n");
         // Word 4, the round.
@@ -140,9 +151,23 @@ mod tests {
         assert_eq!(text(&[], &[], &[]), "refused 3\n");
     }
 
+    /// The scope paper's round with the key 12 for both.
+    #[test]
+    fn two_equal_keys() {
+        let example::Round { mut set, mut board } = of_keys_alone();
+        let expected = text(&[], &set, &board);
+        assert_eq!(text_with_equal_keys(&[], &set, &board), expected);
+        board[32 + 15] = 12;
+        assert_eq!(text(&[], &set, &board), "refused 22\n");
+        assert_eq!(text_with_equal_keys(&[], &set, &board), expected);
+        set[19] = 1;
+        assert_eq!(text(&[], &set, &board), "refused 17\n");
+        assert_eq!(text_with_equal_keys(&[], &set, &board), "refused 17\n");
+    }
+
     #[test]
     fn the_table_is_judged_before_the_set() {
-        let Round { set, board } = of_keys_alone();
+        let example::Round { set, board } = of_keys_alone();
         let table = table::bytes(&table::BUILT_IN);
         assert_eq!(text(&table, &set, &board), text(&[], &set, &board));
         for (word, to, number) in [(7, 1, 4), (3, 1, 20), (5, 0, 21)] {

@@ -36,10 +36,6 @@ impl Group {
         self.is_element(y) && y != 1
     }
 
-    pub fn all_keys(&self, figures: &[u32]) -> bool {
-        figures.iter().all(|&y| self.is_key(y))
-    }
-
     pub fn all_elements(&self, figures: &[u32]) -> bool {
         figures.iter().all(|&v| self.is_element(v))
     }

@@ -1,12 +1,33 @@
 //! A linear congruential generator: the same varied numbers at every run.
 
+/// How the keys of a round are drawn.
+#[derive(Clone, Copy, Default, Debug, PartialEq)]
+pub enum Keys {
+    /// Such that no two members have one key.
+    #[default]
+    Distinct,
+    /// Each by itself, so that two may be equal. The cases from before keys had to be distinct have such ones.
+    Any,
+}
+
 pub struct Numbers {
     state: u64,
+    pub keys: Keys,
 }
 
 impl Numbers {
+    /// Numbers by which distinct keys are drawn.
     pub fn new(seed: u64) -> Self {
-        Numbers { state: seed }
+        Numbers::with_keys(seed, Keys::Distinct)
+    }
+
+    pub fn with_keys(seed: u64, keys: Keys) -> Self {
+        Numbers { state: seed, keys }
+    }
+
+    /// The numbers of another seed, by which keys are drawn in the same way.
+    pub fn of_seed(&self, seed: u64) -> Self {
+        Numbers::with_keys(seed, self.keys)
     }
 
     /// The upper half of the next state.

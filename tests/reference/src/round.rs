@@ -33,6 +33,9 @@ pub struct Round {
     pub round: u32,
     /// The first round in which an exponent is taken from the whole digest, 0 for none.
     pub first: u32,
+    /// Whether two members may have one key, as they could before the eighth request. No operation judges so any more: the
+    /// cases from before are written and compared by it.
+    pub may_keys_be_equal: bool,
 }
 
 impl<'a> Lent<'a> {
@@ -90,6 +93,7 @@ impl<'a> Lent<'a> {
             t,
             round,
             first,
+            may_keys_be_equal: false,
         })
     }
 }
@@ -100,10 +104,29 @@ impl Round {
         (1..=self.n).contains(&number)
     }
 
+    /// The same round as it was judged before keys had to be distinct.
+    pub fn with_equal_keys(self) -> Round {
+        Round {
+            may_keys_be_equal: true,
+            ..self
+        }
+    }
+
+    /// The checks of a list of keys, each over all of them: 6 one that is no element, or is 1; 22 two that are equal.
+    pub fn check_keys(&self, keys: &[u32]) -> Answer<()> {
+        require(keys.iter().all(|&y| self.group.is_key(y)), 6)?;
+        require(self.may_keys_be_equal || are_distinct(keys), 22)
+    }
+
     /// Whether an exponent is taken from the whole digest. Round 0 is before every first round.
     pub fn takes_whole(&self) -> bool {
         self.first != 0 && self.round >= self.first
     }
+}
+
+/// Whether no two of the figures are equal.
+fn are_distinct(figures: &[u32]) -> bool {
+    (1..figures.len()).all(|k| !figures[..k].contains(&figures[k]))
 }
 
 #[cfg(test)]
@@ -157,5 +180,48 @@ mod tests {
     fn the_group_counts_first() {
         assert_eq!(refusal(0, 0, 0), Some(1));
         assert_eq!(refusal(4, 2, 1), Some(1));
+    }
+
+    fn checked(keys: &[u32]) -> Option<u32> {
+        FOUR.round().unwrap().check_keys(keys).err()
+    }
+
+    /// Every two of the keys of group 1, and in the place of one of them each figure up to p + 1.
+    #[test]
+    fn keys_of_group_1() {
+        let all = [2, 3, 4, 6, 8, 9, 12, 13, 16, 18];
+        assert_eq!(checked(&all), None);
+        for k in 0..10 {
+            for figure in 0..=24 {
+                let mut keys = all;
+                keys[k] = figure;
+                let expected = match all.iter().position(|&y| y == figure) {
+                    None => Some(6),
+                    Some(place) => (place != k).then_some(22),
+                };
+                assert_eq!(checked(&keys), expected, "{k} {figure}");
+            }
+        }
+    }
+
+    /// A bad key counts before two equal ones, wherever it stands, and equal ones that are bad are bad.
+    #[test]
+    fn bad_keys_count_first() {
+        assert_eq!(checked(&[12, 12, 1]), Some(6));
+        assert_eq!(checked(&[1, 12, 12]), Some(6));
+        assert_eq!(checked(&[12, 5, 12]), Some(6));
+        for bad in [0, 1, 5, 22, 23, 35, u32::MAX] {
+            assert_eq!(checked(&[bad, bad]), Some(6));
+        }
+        // 12 and 12 + p.
+        assert_eq!(checked(&[12, 35]), Some(6));
+        assert_eq!(checked(&[12, 12]), Some(22));
+    }
+
+    #[test]
+    fn equal_keys_as_before() {
+        let round = FOUR.round().unwrap().with_equal_keys();
+        assert_eq!(round.check_keys(&[12, 12]), Ok(()));
+        assert_eq!(round.check_keys(&[12, 1]), Err(6));
     }
 }

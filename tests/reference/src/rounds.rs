@@ -3,6 +3,7 @@
 mod added;
 mod crossed;
 mod firsts;
+mod keys;
 mod lengths;
 mod numbered;
 mod places;
@@ -118,6 +119,7 @@ fn all() -> Vec<Case> {
     crossed::add(&mut cases);
     added::add(&mut cases);
     tables::add(&mut cases);
+    keys::add(&mut cases);
     cases.0
 }
 
@@ -133,7 +135,9 @@ pub fn write(folder: &Path) -> io::Result<usize> {
 #[cfg(test)]
 mod tests {
     use super::*;
+    use crate::record;
     use crate::table;
+    use crate::vectors::equal;
     use std::collections::BTreeSet;
 
     #[test]
@@ -149,7 +153,7 @@ mod tests {
     fn every_ending() {
         let texts: Vec<String> = all().iter().map(Case::text).collect();
         let ends = |end: &str| texts.iter().any(|text| text.ends_with(end));
-        for number in [1, 2, 3, 4, 5, 6, 12, 13, 14, 17, 20, 21] {
+        for number in [1, 2, 3, 4, 5, 6, 12, 13, 14, 17, 20, 21, 22] {
             assert!(ends(&format!("refused {number}\n")), "{number}");
         }
         assert!(ends("draw 13\n"));
@@ -163,6 +167,37 @@ mod tests {
         assert!(texts.iter().filter(is_one).count() >= 10);
         let is_13 = |text: &String| text.contains(" stuck\n") && text.ends_with("\nrefused 13\n");
         assert!(texts.iter().any(is_13));
+    }
+
+    /// Two equal keys are refused and nothing else is printed, with a table and without, in round 0 and in others; and no board
+    /// that is judged further has two.
+    #[test]
+    fn rounds_with_equal_keys() {
+        let mut found = BTreeSet::new();
+        for case in all() {
+            let (table, text) = (case.table.bytes(), case.text());
+            let keys = equal::on_board(table, case.set.bytes(), case.board.bytes());
+            if let Some((group, keys)) = keys {
+                let is_due = equal::is_due(&group, &keys);
+                assert_eq!(is_due, text == "refused 22\n", "{}", case.name);
+                let round = record::read(case.set.bytes())[4];
+                found.insert((is_due, table.is_empty(), round == 0, keys.len()));
+            }
+        }
+        for is_due in [true, false] {
+            for (is_empty, is_0, n) in [
+                (true, true, 2),
+                (true, true, 4),
+                (true, false, 4),
+                (true, false, 10),
+                (true, true, 31),
+                (true, false, 31),
+                (false, true, 4),
+            ] {
+                let place = (is_due, is_empty, is_0, n);
+                assert!(found.contains(&place), "{place:?}");
+            }
+        }
     }
 
     /// The file of a table is written where there is one, and only the table's number is printed where it is refused.

@@ -20,10 +20,13 @@ pub mod chains;
 mod coverage;
 mod degree;
 pub mod digest;
+pub mod equal;
 mod equality;
 mod faults;
 mod judge_dealing;
 mod judge_share;
+mod keys;
+mod known;
 mod opening;
 pub mod pick_plots;
 mod power;
@@ -38,7 +41,10 @@ mod write_share;
 
 use crate::answer::Answer;
 use crate::group::{group, Group};
+use crate::numbers::{Keys, Numbers};
 use crate::round::Figures;
+use cases::Case;
+use known::Known;
 
 /// An operation as the cases name it.
 struct Operation {
@@ -70,13 +76,29 @@ const TABLE: Operation = Operation {
 pub struct Vectors {
     pub stdin: Vec<u8>,
     pub stdout: String,
+    /// The text as it would be if two members could have one key, as they could before the eighth request.
+    pub before: String,
+    /// How keys are drawn for the cases.
+    keys: Keys,
+    /// How many cases there are.
+    count: usize,
+    /// The cases of other vectors: one that is the same in the same place has the same answer.
+    known: Option<Known>,
     base: Vec<u8>,
     table: &'static [u8],
     round: u32,
     first: u32,
 }
 
+/// The most bytes that the program takes behind a header.
+const MOST_PAYLOAD: usize = 65_600;
+
 impl Vectors {
+    /// The numbers of a seed, by which keys are drawn as in these cases.
+    fn numbers(&self, seed: u64) -> Numbers {
+        Numbers::with_keys(seed, self.keys)
+    }
+
     /// Adds a case that makes a board or a chain the base of those behind it.
     fn load(&mut self, base: &[u8]) {
         self.line(&BASE, &[], base, &base.len().to_string());
@@ -89,6 +111,21 @@ impl Vectors {
             self.line(&TABLE, &[], table, &table.len().to_string());
             self.table = table;
         }
+    }
+
+    /// Adds a case of other vectors, with what comes before it there. `before` is the same case with its answer from before keys
+    /// had to be distinct.
+    fn copy(&mut self, case: &Case<'static>, before: &Case) {
+        self.lend(case.table);
+        self.in_round(case.round, case.first);
+        if matches!(case.operation, 11..=13 | 17 | 18) && self.base != case.base {
+            self.load(case.base);
+        }
+        self.count += 1;
+        self.stdin.extend(case.header());
+        self.stdin.extend(case.payload);
+        self.stdout += &case.line();
+        self.before += &before.line();
     }
 
     /// The group of a number in the table that cases are lent.
@@ -133,8 +170,7 @@ impl Vectors {
         answer: Answer<String>,
     ) -> Option<u32> {
         let refusal = answer.as_ref().err().copied();
-        let answer = answer.unwrap_or_else(|number| format!("refused {number}"));
-        self.line(operation, arguments, payload, &answer);
+        self.line(operation, arguments, payload, &text_of(answer));
         refusal
     }
 
@@ -147,26 +183,43 @@ impl Vectors {
         answer: Answer<()>,
         buffer: &[u8],
     ) -> Option<u32> {
-        let refusal = answer.err();
-        let answer = passed(answer).unwrap_or_else(|number| format!("refused {number}"));
-        self.line(
-            operation,
-            arguments,
-            payload,
-            &format!("{answer} {}", hex(buffer)),
-        );
-        refusal
+        let text = text_of_written(answer, buffer);
+        self.line(operation, arguments, payload, &text);
+        answer.err()
     }
 
     fn line(&mut self, operation: &Operation, arguments: &[u32], payload: &[u8], text: &str) {
+        self.lines(operation, arguments, payload, [text, text]);
+    }
+
+    /// Adds a case with its answer now, and with that from before keys had to be distinct.
+    fn lines(
+        &mut self,
+        operation: &Operation,
+        arguments: &[u32],
+        payload: &[u8],
+        [now, before]: [&str; 2],
+    ) {
+        assert!(payload.len() <= MOST_PAYLOAD);
+        self.count += 1;
         let mut header = [0; 8];
         header[0] = operation.number;
         header[1..7][..arguments.len()].copy_from_slice(arguments);
         header[7] = payload.len() as u32;
         self.stdin.extend(bytes(&header));
         self.stdin.extend(payload);
-        self.stdout += &format!("{} {text}\n", operation.name);
+        self.stdout += &format!("{} {now}\n", operation.name);
+        self.before += &format!("{} {before}\n", operation.name);
     }
+}
+
+fn text_of(answer: Answer<String>) -> String {
+    answer.unwrap_or_else(|number| format!("refused {number}"))
+}
+
+/// The text of a writer's answer, with what its buffer then has in it.
+fn text_of_written(answer: Answer<()>, buffer: &[u8]) -> String {
+    format!("{} {}", text_of(passed(answer)), hex(buffer))
 }
 
 /// The text of an answer that has no value.
@@ -189,27 +242,49 @@ pub fn bytes(words: &[u32]) -> Vec<u8> {
     words.iter().flat_map(|word| word.to_be_bytes()).collect()
 }
 
-/// Every case, operation by operation; behind these the cases of rounds other than 0, those on chains, those of rounds with a
-/// first round under the new rule, those of added shares, and those with a table of groups.
+/// The cases from before keys had to be distinct, operation by operation; behind these those of rounds other than 0, those on
+/// chains, those of rounds with a first round under the new rule, those of added shares, and those with a table of groups.
+const EARLIER: [fn(&mut Vectors); 17] = [
+    digest::add,
+    power::add,
+    degree::add,
+    opening::add,
+    recovery::add,
+    equality::add,
+    write_dealing::add,
+    judge_dealing::add,
+    write_share::add,
+    judge_share::add,
+    boards::add,
+    pick_plots::add,
+    rounds::add,
+    chains::add,
+    rules::add,
+    added::add,
+    tables::add,
+];
+
+/// Every case: the earlier ones, whose keys are as they were drawn, and behind these the cases of equal and of distinct keys.
 pub fn all() -> Vectors {
-    let mut vectors = Vectors::default();
-    digest::add(&mut vectors);
-    power::add(&mut vectors);
-    degree::add(&mut vectors);
-    opening::add(&mut vectors);
-    recovery::add(&mut vectors);
-    equality::add(&mut vectors);
-    write_dealing::add(&mut vectors);
-    judge_dealing::add(&mut vectors);
-    write_share::add(&mut vectors);
-    judge_share::add(&mut vectors);
-    boards::add(&mut vectors);
-    pick_plots::add(&mut vectors);
-    rounds::add(&mut vectors);
-    chains::add(&mut vectors);
-    rules::add(&mut vectors);
-    added::add(&mut vectors);
-    tables::add(&mut vectors);
+    let mut vectors = earlier(Keys::Any, None);
+    let known = Known::of(&vectors);
+    let others = earlier(Keys::Distinct, Some(known));
+    tables::add_same(&mut vectors);
+    keys::add(&mut vectors, &others);
+    vectors
+}
+
+/// The earlier cases with keys that are drawn in one way or the other: by both there are as many, of the same operations in
+/// the same rounds.
+fn earlier(keys: Keys, known: Option<Known>) -> Vectors {
+    let mut vectors = Vectors {
+        keys,
+        known,
+        ..Vectors::default()
+    };
+    for add in EARLIER {
+        add(&mut vectors);
+    }
     vectors
 }
 

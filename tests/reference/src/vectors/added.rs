@@ -20,10 +20,9 @@ mod varied;
 pub mod write;
 
 use super::Vectors;
-use crate::numbers::Numbers;
 
 pub fn add(vectors: &mut Vectors) {
-    let mut numbers = Numbers::new(61);
+    let mut numbers = vectors.numbers(61);
     write::add(vectors, &mut numbers);
     judge::add(vectors, &mut numbers);
     ends::add(vectors, &mut numbers);

@@ -11,6 +11,7 @@ pub mod posted;
 pub mod refused;
 pub mod varied;
 
+use super::equal;
 use super::sample::rounds;
 use super::splices::splices;
 use super::{Operation, Vectors};
@@ -27,27 +28,63 @@ const TEXT: Operation = Operation {
 /// Group and threshold of the rounds of 31 members.
 const LARGEST: [(u32, u32); 4] = [(2, 16), (3, 1), (3, 16), (3, 31)];
 
+/// The text where two keys are equal.
+const EQUAL: &str = "refused 22\n";
+
 impl Posted {
+    /// The text from before keys had to be distinct.
     pub fn text(&self) -> String {
-        draw::text(self.table, &self.set, &self.board())
+        draw::text_with_equal_keys(self.table, &self.set, &self.board())
     }
 
-    /// Adds a case. Returns the text.
+    /// Adds a case. Returns the text from before keys had to be distinct.
     pub fn add(&self, vectors: &mut Vectors) -> String {
         vectors.lend(self.table);
         add_files(vectors, &self.set, &self.board())
     }
+
+    /// Adds a case. Returns the text.
+    pub fn add_now(&self, vectors: &mut Vectors) -> String {
+        vectors.lend(self.table);
+        let [now, _] = add_both(vectors, &self.set, &self.board());
+        now
+    }
 }
 
-/// Adds a case of the bytes of both files. Returns the text.
+/// Adds a case of the bytes of both files. Returns the text from before keys had to be distinct.
 pub fn add_files(vectors: &mut Vectors, set: &[u8], board: &[u8]) -> String {
-    let text = draw::text(vectors.table, set, board);
+    let [_, before] = add_both(vectors, set, board);
+    before
+}
+
+/// Adds a case of the bytes of both files. Returns the text now, and the one from before keys had to be distinct.
+fn add_both(vectors: &mut Vectors, set: &[u8], board: &[u8]) -> [String; 2] {
+    let payload = [set, &splices(&vectors.base, board)].concat();
+    let known = vectors.known.as_ref();
+    let known = known.and_then(|known| known.texts(vectors, &payload, set.len()));
+    let texts = known.unwrap_or_else(|| texts(vectors.table, set, board));
     let lengths = [vectors.base.len() as u32, set.len() as u32];
     let arguments = [0, 0, 0, 0, lengths[0], lengths[1]];
-    let payload = [set, &splices(&vectors.base, board)].concat();
-    let answer = format!("{}\n{}", text.len(), text.trim_end());
-    vectors.line(&TEXT, &arguments, &payload, &answer);
-    text
+    let answers = texts
+        .each_ref()
+        .map(|text| format!("{}\n{}", text.len(), text.trim_end()));
+    let answers = answers.each_ref().map(String::as_str);
+    vectors.lines(&TEXT, &arguments, &payload, answers);
+    texts
+}
+
+/// The text now, and the one from before keys had to be distinct.
+fn texts(table: &[u8], set: &[u8], board: &[u8]) -> [String; 2] {
+    let now = draw::text(table, set, board);
+    let keys = equal::on_board(table, set, board);
+    let is_due = keys.is_some_and(|(group, keys)| equal::is_due(&group, &keys));
+    assert_eq!(now == EQUAL, is_due);
+    let before = if is_due {
+        draw::text_with_equal_keys(table, set, board)
+    } else {
+        now.clone()
+    };
+    [now, before]
 }
 
 /// The number in a line that ends in `refused` and a number.
@@ -71,7 +108,7 @@ pub fn dealer_refused_by(text: &str, dealer: u32) -> Option<u32> {
 }
 
 pub fn add(vectors: &mut Vectors) {
-    let mut numbers = Numbers::new(11);
+    let mut numbers = vectors.numbers(11);
     for figures in rounds().into_iter().filter(|figures| figures.n <= 10) {
         let all = Posted::loaded(vectors, figures, &mut numbers);
         lines::dealers(vectors, figures, &all);

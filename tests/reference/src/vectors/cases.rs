@@ -21,6 +21,18 @@ pub struct Case<'a> {
 }
 
 impl Case<'_> {
+    /// The case's first bytes, before the payload.
+    pub fn header(&self) -> Vec<u8> {
+        let [a, b, c, d, e, f] = self.arguments;
+        let length = self.payload.len() as u32;
+        record::bytes([[self.operation, a, b, c, d, e, f, length]])
+    }
+
+    /// The case's line, with the text behind it.
+    pub fn line(&self) -> String {
+        format!("{} {}\n{}", self.name, self.answer, self.text)
+    }
+
     /// The set of a case of the text.
     pub fn set(&self) -> &[u8] {
         &self.payload[..self.arguments[5] as usize]

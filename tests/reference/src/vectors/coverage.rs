@@ -5,6 +5,7 @@ mod chains;
 mod crossed;
 mod exponents;
 mod firsts;
+mod keys;
 mod links;
 mod others;
 mod rounds;
@@ -30,16 +31,20 @@ fn all() -> &'static [Case<'static>] {
     })
 }
 
-/// The cases before the first with a table, which are of the built-in groups.
-fn cases() -> &'static [Case<'static>] {
+/// The cases before the first with a table.
+fn before_tables() -> &'static [Case<'static>] {
     let cases = all();
     let first = cases.iter().position(|case| case.operation == 22);
     &cases[..first.unwrap_or(cases.len())]
 }
 
+/// The cases that are lent no table, which are of the built-in groups.
+fn cases() -> impl Iterator<Item = &'static Case<'static>> {
+    all().iter().filter(|case| case.table.is_empty())
+}
+
 fn answered(operation: u32) -> impl Iterator<Item = &'static Case<'static>> {
-    let cases = cases().iter();
-    cases.filter(move |case| case.operation == operation)
+    cases().filter(move |case| case.operation == operation)
 }
 
 /// The number that a case is refused by.
@@ -101,8 +106,8 @@ const NUMBERS: [(u32, &[u32]); 16] = [
     (4, &[1, 2, 3, 6, 7, 11]),
     (5, &[1, 2, 3, 6, 8]),
     (6, &[1, 6, 7, 10]),
-    (7, &[1, 2, 3, 6, 7, 8]),
-    (8, &[1, 2, 3, 4, 6, 7, 8, 9, 10, 17]),
+    (7, &[1, 2, 3, 6, 7, 8, 22]),
+    (8, &[1, 2, 3, 4, 6, 7, 8, 9, 10, 17, 22]),
     (9, &[1, 2, 3, 6, 7, 8]),
     (10, &[1, 2, 3, 4, 6, 7, 8, 10, 17]),
     (11, &[1, 2, 3, 4, 5, 8, 17]),
@@ -134,14 +139,13 @@ fn every_number_of_each_operation() {
 /// From 3 to 10 the operations of a round, a dealer's lines, and added shares.
 #[test]
 fn the_fewest_members_and_the_most() {
-    let cases = cases();
     for operation in [3, 4, 5, 7, 8, 9, 10, 11, 20, 21] {
         for (number, n) in [(1, 1), (2, 1), (3, 1), (1, 10), (3, 31)] {
             let is_one = |case: &Case| {
                 let has_figures = case.arguments[..2] == [number, n];
-                case.operation == operation && has_figures && !case.answer.starts_with("refused")
+                has_figures && !case.answer.starts_with("refused")
             };
-            assert!(cases.iter().any(is_one), "{operation} {number} {n}");
+            assert!(answered(operation).any(is_one), "{operation} {number} {n}");
         }
     }
 }
@@ -232,7 +236,9 @@ fn said<'a>(texts: impl Iterator<Item = &'a Files>) -> [BTreeSet<String>; 2] {
 }
 
 /// Every end but that by 1, and every verdict.
-const ENDS: [&str; 10] = ["draw", "2", "3", "4", "17", "5", "12", "6", "14", "13"];
+const ENDS: [&str; 11] = [
+    "draw", "2", "3", "4", "17", "5", "12", "6", "22", "14", "13",
+];
 const VERDICTS: [&str; 9] = [
     "none",
     "opened",

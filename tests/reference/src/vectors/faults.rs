@@ -56,7 +56,8 @@ pub fn singly_and_in_pairs<C: Clone>(
 pub trait InRound: Clone {
     fn figures(&mut self) -> &mut Figures;
 
-    /// Adds the case. Returns the number that it is refused by.
+    /// Adds the case. Returns the number that it is refused by; of an operation that is lent a list of keys this is the one
+    /// from before keys had to be distinct, and that 22 is answered exactly where it is due is asserted by `add` itself.
     fn add(&self, vectors: &mut Vectors) -> Option<u32>;
 }
 

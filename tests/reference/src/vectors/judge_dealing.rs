@@ -1,10 +1,12 @@
 //! Cases of judging a dealing. The arguments are group, n, t, the dealer, the number of keys and the lines' length in
 //! bytes; the payload has the keys and the lines.
 
+use super::equal::{self, EQUAL};
 use super::faults::{in_round, Fault, InRound};
 use super::sample::{fours, keys, list, other_element, other_exponent, proper, rounds};
-use super::{bytes, passed, Operation, Vectors};
-use crate::dealing::{deal, judge_dealing, write_dealing};
+use super::{bytes, passed, text_of, Operation, Vectors};
+use crate::answer::Answer;
+use crate::dealing::{deal, judge, judge_dealing, write};
 use crate::modular::difference;
 use crate::numbers::Numbers;
 use crate::record::{self, SIZE};
@@ -40,18 +42,58 @@ impl Case {
         case
     }
 
-    /// Writes other lines with the same keys.
+    /// Writes other lines with the same keys, equal ones too.
     fn deal(&mut self, polynomial: &[u32], numbers: &mut Numbers) {
-        let q = proper(self.figures).group.q;
-        let nonces = list(numbers, self.figures.n, q);
+        let round = proper(self.figures).with_equal_keys();
+        let nonces = list(numbers, round.n, round.group.q);
         let Case {
-            figures,
             dealer,
             keys,
             lines,
+            ..
         } = self;
-        let written = write_dealing(*figures, *dealer, keys, polynomial, &nonces, lines);
+        let written = write(&round, *dealer, keys, polynomial, &nonces, lines);
         assert_eq!(written, Ok(()));
+    }
+
+    /// Whether 22 is due: nothing counts before two equal keys.
+    fn is_equal_due(&self) -> bool {
+        self.figures.round().is_ok_and(|round| {
+            let n = round.n as usize;
+            let are_lengths = self.keys.len() == n && self.lines.len() == SIZE * n;
+            let is_dealer = (1..=round.n).contains(&self.dealer);
+            is_dealer && are_lengths && equal::is_due(&round.group, &self.keys)
+        })
+    }
+
+    /// What the judge answered before keys had to be distinct.
+    pub fn judged(&self) -> Answer<()> {
+        let round = self.figures.round()?.with_equal_keys();
+        judge(&round, self.dealer, &self.keys, &self.lines)
+    }
+
+    /// Adds the case. Returns the number that it is refused by now, and the one from before keys had to be distinct.
+    fn add_both(&self, vectors: &mut Vectors) -> [Option<u32>; 2] {
+        let [number, n, t] = vectors.round(self.figures);
+        let lengths = [self.keys.len() as u32, self.lines.len() as u32];
+        let arguments = [number, n, t, self.dealer, lengths[0], lengths[1]];
+        let payload = [&bytes(&self.keys)[..], &self.lines].concat();
+        let now = judge_dealing(self.figures, self.dealer, &self.keys, &self.lines);
+        assert_eq!(now == Err(EQUAL), self.is_equal_due());
+        let before = match now {
+            Err(EQUAL) => self.judged(),
+            _ => now,
+        };
+        let texts = [now, before].map(|answer| text_of(passed(answer)));
+        let texts = texts.each_ref().map(String::as_str);
+        vectors.lines(&JUDGE_DEALING, &arguments, &payload, texts);
+        [now.err(), before.err()]
+    }
+
+    /// Adds the case. Returns the number that it is refused by.
+    pub fn add_now(&self, vectors: &mut Vectors) -> Option<u32> {
+        let [now, _] = self.add_both(vectors);
+        now
     }
 
     /// Changes a word of the line number k, from 0.
@@ -69,17 +111,13 @@ impl InRound for Case {
     }
 
     fn add(&self, vectors: &mut Vectors) -> Option<u32> {
-        let [number, n, t] = vectors.round(self.figures);
-        let lengths = [self.keys.len() as u32, self.lines.len() as u32];
-        let arguments = [number, n, t, self.dealer, lengths[0], lengths[1]];
-        let payload = [&bytes(&self.keys)[..], &self.lines].concat();
-        let answer = judge_dealing(self.figures, self.dealer, &self.keys, &self.lines);
-        vectors.add(&JUDGE_DEALING, &arguments, &payload, passed(answer))
+        let [_, before] = self.add_both(vectors);
+        before
     }
 }
 
 pub fn add(vectors: &mut Vectors) {
-    let mut numbers = Numbers::new(8);
+    let mut numbers = vectors.numbers(8);
     for figures in rounds() {
         written(vectors, figures, &mut numbers);
     }

@@ -9,7 +9,6 @@ mod sharing;
 pub mod uncarried;
 
 use super::Vectors;
-use crate::numbers::Numbers;
 use std::collections::BTreeSet;
 
 /// The first round, others whose bytes differ, and the last.
@@ -35,7 +34,7 @@ pub fn others(round: u32) -> BTreeSet<u32> {
 }
 
 pub fn add(vectors: &mut Vectors) {
-    let mut numbers = Numbers::new(16);
+    let mut numbers = vectors.numbers(16);
     sharing::add(vectors, &mut numbers);
     dealings::add(vectors, &mut numbers);
     uncarried::add(vectors, &mut numbers);

@@ -12,7 +12,6 @@ mod sharing;
 mod uncarried;
 
 use super::Vectors;
-use crate::numbers::Numbers;
 use crate::round::Figures;
 
 /// The first round of all, others whose bytes differ, and the last.
@@ -50,7 +49,7 @@ pub fn crossings(figures: Figures) -> Vec<[Figures; 2]> {
 }
 
 pub fn add(vectors: &mut Vectors) {
-    let mut numbers = Numbers::new(51);
+    let mut numbers = vectors.numbers(51);
     border::add(vectors, &mut numbers);
     crossed::add(vectors, &mut numbers);
     uncarried::add(vectors, &mut numbers);

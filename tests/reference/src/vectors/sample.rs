@@ -2,7 +2,7 @@
 
 use super::Vectors;
 use crate::group::Group;
-use crate::numbers::Numbers;
+use crate::numbers::{Keys, Numbers};
 use crate::round::{Figures, Round, FOUR};
 
 /// n and t of the sample's rounds in every group: with n = t, with t = 1, and up to the most members in group 1.
@@ -70,12 +70,27 @@ pub fn places(length: usize) -> Vec<usize> {
     }
 }
 
+/// Secret keys of a round's members. Where the keys are to be distinct, the next one that is free stands for one that was drawn
+/// before: so the numbers behind are the same in both ways, and the keys are where no two are equal.
+pub fn secret_keys(round: &Round, numbers: &mut Numbers) -> Vec<u32> {
+    let count = round.group.q - 1;
+    let mut drawn = list(numbers, round.n, count);
+    if numbers.keys == Keys::Distinct {
+        for k in 0..drawn.len() {
+            while drawn[..k].contains(&drawn[k]) {
+                drawn[k] = (drawn[k] + 1) % count;
+            }
+        }
+    }
+    drawn.iter().map(|x| 1 + x).collect()
+}
+
 /// Keys of a round's members.
 pub fn keys(round: &Round, numbers: &mut Numbers) -> Vec<u32> {
-    let secret_keys = list(numbers, round.n, round.group.q - 1);
+    let secret_keys = secret_keys(round, numbers);
     let keys = secret_keys
         .iter()
-        .map(|x| round.group.power(round.group.h, 1 + x));
+        .map(|&x| round.group.power(round.group.h, x));
     keys.collect()
 }
 
@@ -102,5 +117,29 @@ pub fn other_exponent(group: &Group, figure: u32) -> u32 {
         (figure + 1) % group.q
     } else {
         figure
+    }
+}
+
+#[cfg(test)]
+mod tests {
+    use super::*;
+    use std::collections::BTreeSet;
+
+    /// Distinct keys in every round, with all of them where n is q - 1. Any keys are others only where two are equal.
+    #[test]
+    fn distinct_keys() {
+        for figures in rounds() {
+            let round = proper(figures);
+            for seed in 0..20 {
+                let distinct = keys(&round, &mut Numbers::new(seed));
+                let any = keys(&round, &mut Numbers::with_keys(seed, Keys::Any));
+                let are_distinct = |keys: &[u32]| {
+                    let set: BTreeSet<&u32> = keys.iter().collect();
+                    set.len() == round.n as usize
+                };
+                assert!(are_distinct(&distinct));
+                assert_eq!(distinct == any, are_distinct(&any));
+            }
+        }
     }
 }

@@ -2,7 +2,7 @@
 
 mod calls;
 mod crossed;
-mod everywhere;
+pub mod everywhere;
 mod generators;
 pub mod groups;
 mod links;
@@ -10,14 +10,13 @@ mod moduli;
 mod numbers;
 mod places;
 mod played;
-mod same;
+pub mod same;
 mod shapes;
 
 use super::{power, Vectors};
-use crate::numbers::Numbers;
 
 pub fn add(vectors: &mut Vectors) {
-    let mut numbers = Numbers::new(71);
+    let mut numbers = vectors.numbers(71);
     moduli::add(vectors);
     generators::add(vectors);
     shapes::add(vectors);
@@ -27,8 +26,11 @@ pub fn add(vectors: &mut Vectors) {
     played::add(vectors, &mut numbers);
     crossed::add(vectors, &mut numbers);
     links::add(vectors, &mut numbers);
+}
+
+/// Earlier cases again, with a table that changes nothing. The cases behind have the built-in groups again.
+pub fn add_same(vectors: &mut Vectors) {
     same::add(vectors);
-    // The cases behind have the built-in groups again.
     vectors.lend(&[]);
     probe(vectors);
 }

@@ -2,13 +2,15 @@
 //! numbers of keys, coefficients and nonces, a word each, then these lists; the buffer is lent with the payload's first
 //! bytes in it. The line has the buffer's bytes at the end.
 
+use super::equal::{self, EQUAL};
 use super::faults::{in_round, Fault, InRound};
 use super::sample::{keys, list, proper, rounds};
-use super::{buffered, Operation, Vectors};
+use super::{buffered, text_of_written, Operation, Vectors};
 use crate::answer::Answer;
-use crate::dealing::write_dealing;
+use crate::dealing::{write, write_dealing};
 use crate::modular::difference;
 use crate::numbers::Numbers;
+use crate::record::SIZE;
 use crate::round::Figures;
 
 const WRITE_DEALING: Operation = Operation {
@@ -40,6 +42,17 @@ impl Case {
         }
     }
 
+    /// Whether 22 is due: nothing counts before two equal keys.
+    fn is_equal_due(&self) -> bool {
+        self.figures.round().is_ok_and(|round| {
+            let (n, t) = (round.n as usize, round.t as usize);
+            let lengths = [self.keys.len(), self.nonces.len(), self.coefficients.len()];
+            let are_lengths = lengths == [n, n, t] && self.size == SIZE * n;
+            let is_dealer = (1..=round.n).contains(&self.dealer);
+            is_dealer && are_lengths && equal::is_due(&round.group, &self.keys)
+        })
+    }
+
     fn payload(&self) -> Vec<u8> {
         let lists = [&self.keys, &self.coefficients, &self.nonces];
         let mut words = vec![self.size as u32];
@@ -48,8 +61,26 @@ impl Case {
         buffered(&words, self.size)
     }
 
-    /// What the writer answers, and what the buffer then has in it.
+    /// What the writer answered before keys had to be distinct, and what the buffer then had in it.
     pub fn written(&self) -> (Answer<()>, Vec<u8>) {
+        let mut buffer = self.payload()[..self.size].to_vec();
+        let round = self.figures.round().map(|round| round.with_equal_keys());
+        let answer = round.and_then(|round| {
+            let (dealer, keys, nonces) = (self.dealer, &self.keys, &self.nonces);
+            write(
+                &round,
+                dealer,
+                keys,
+                &self.coefficients,
+                nonces,
+                &mut buffer,
+            )
+        });
+        (answer, buffer)
+    }
+
+    /// What the writer answers, and what the buffer then has in it.
+    fn written_now(&self) -> (Answer<()>, Vec<u8>) {
         let mut buffer = self.payload()[..self.size].to_vec();
         let answer = write_dealing(
             self.figures,
@@ -61,6 +92,30 @@ impl Case {
         );
         (answer, buffer)
     }
+
+    /// Adds the case. Returns the number that it is refused by now, and the one from before keys had to be distinct.
+    fn add_both(&self, vectors: &mut Vectors) -> [Option<u32>; 2] {
+        let [number, n, t] = vectors.round(self.figures);
+        let arguments = [number, n, t, self.dealer];
+        let now = self.written_now();
+        assert_eq!(now.0 == Err(EQUAL), self.is_equal_due());
+        let before = if self.is_equal_due() {
+            assert_eq!(now.1, self.payload()[..self.size]);
+            self.written()
+        } else {
+            now.clone()
+        };
+        let texts = [&now, &before].map(|(answer, buffer)| text_of_written(*answer, buffer));
+        let texts = texts.each_ref().map(String::as_str);
+        vectors.lines(&WRITE_DEALING, &arguments, &self.payload(), texts);
+        [now.0.err(), before.0.err()]
+    }
+
+    /// Adds the case. Returns the number that it is refused by.
+    pub fn add_now(&self, vectors: &mut Vectors) -> Option<u32> {
+        let [now, _] = self.add_both(vectors);
+        now
+    }
 }
 
 impl InRound for Case {
@@ -69,15 +124,13 @@ impl InRound for Case {
     }
 
     fn add(&self, vectors: &mut Vectors) -> Option<u32> {
-        let [number, n, t] = vectors.round(self.figures);
-        let arguments = [number, n, t, self.dealer];
-        let (answer, buffer) = self.written();
-        vectors.add_written(&WRITE_DEALING, &arguments, &self.payload(), answer, &buffer)
+        let [_, before] = self.add_both(vectors);
+        before
     }
 }
 
 pub fn add(vectors: &mut Vectors) {
-    let mut numbers = Numbers::new(7);
+    let mut numbers = vectors.numbers(7);
     for figures in rounds() {
         varied(vectors, figures, &mut numbers);
     }

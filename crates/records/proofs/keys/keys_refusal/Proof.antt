@@ -1,4 +1,4 @@
--- `keys_refusal` meets its contract: its one test decides.
+-- `keys_refusal` meets its contract: each return by the tests that led to it.
 use borrow.Author.Needs.{needs}
 use Rattle.words.proofs.Tests.{passed, failed}
 use Rattle.records.specs.Keys.{keyChecks}
@@ -12,9 +12,20 @@ returns : tie.Need-returns
 unfolding keyChecks
 returns c = simp (failed (c .before .all-keys .ensures) (c .if1 .taken))
 
+none-twice-requires : tie.Need-none-twice-requires
+none-twice-requires c κs = search needs
+
 returns-2 : tie.Need-returns-2
 unfolding keyChecks
-returns-2 c = simp (passed (c .before .all-keys .ensures) (c .if1 .left))
+returns-2 c =
+    let k = c .before .before in
+    simp (passed (k .before .all-keys .ensures) (k .if1 .left), failed (c .before .none-twice .ensures) (c .if2 .taken))
+
+returns-3 : tie.Need-returns-3
+unfolding keyChecks
+returns-3 c =
+    let k = c .before .before in
+    simp (passed (k .before .all-keys .ensures) (k .if1 .left), passed (c .before .none-twice .ensures) (c .if2 .left))
 
 pub keys-refusal-spec : {M : Type 1} → statement M
-keys-refusal-spec = tie.close (tie.spec all-keys-requires returns returns-2)
+keys-refusal-spec = tie.close (tie.spec all-keys-requires returns none-twice-requires returns-2 returns-3)

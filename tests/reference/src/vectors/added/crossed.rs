@@ -29,7 +29,7 @@ pub fn add(vectors: &mut Vectors, numbers: &mut Numbers) {
 fn boards(pair: [Figures; 2], numbers: &mut Numbers) -> [Posted; 2] {
     let seed = u64::from(numbers.word());
     pair.map(|figures| {
-        let playing = Playing::any(figures, &mut Numbers::new(seed));
+        let playing = Playing::any(figures, &mut numbers.of_seed(seed));
         stuck(&playing.all, |dealer| dealer == 3)
     })
 }

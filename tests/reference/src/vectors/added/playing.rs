@@ -16,7 +16,11 @@ pub struct Playing {
 impl Playing {
     /// Any keys and dealings.
     pub fn any(figures: Figures, numbers: &mut Numbers) -> Playing {
-        let members = any_members(figures, numbers);
+        Playing::of(any_members(figures, numbers), numbers)
+    }
+
+    /// Any dealings for these members.
+    pub fn of(members: Members, numbers: &mut Numbers) -> Playing {
         let posted = Posted::everything(&members, numbers);
         let shares = posted.added_of(&members, |_| true, numbers);
         let all = posted.with_added(shares);

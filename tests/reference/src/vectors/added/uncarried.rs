@@ -2,10 +2,10 @@
 //! the draw value.
 
 use super::super::boards::posted::{any_dealing, any_members, Posted};
-use super::super::sample::list;
+use super::super::sample::{list, proper};
 use super::super::Vectors;
 use super::playing::{by, end};
-use crate::dealing::judge_dealing;
+use crate::dealing::judge;
 use crate::numbers::Numbers;
 use crate::posting::Members;
 use crate::record::{self, Record};
@@ -22,11 +22,12 @@ pub fn add(vectors: &mut Vectors, numbers: &mut Numbers) {
 /// The lines of dealer 3, of exponents that pass: of any exponents about one in q does.
 fn uncarried(members: &Members, numbers: &mut Numbers) -> Vec<Record> {
     let (q, n) = (members.round.group.q, members.round.n);
+    let round = proper(members.figures).with_equal_keys();
     loop {
         let exponents = list(numbers, n, q);
         let lines = members.lines(3, &exponents, &list(numbers, n, q));
         let bytes = record::bytes(lines.clone());
-        if judge_dealing(members.figures, 3, &members.keys, &bytes).is_ok() {
+        if judge(&round, 3, &members.keys, &bytes).is_ok() {
             return lines;
         }
     }

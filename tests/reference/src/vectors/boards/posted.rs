@@ -1,6 +1,6 @@
 //! Boards of which cases are made: everything that members can post, and changes of it.
 
-use super::super::sample::{list, proper};
+use super::super::sample::{list, proper, secret_keys};
 use super::super::Vectors;
 use crate::draw::set_record;
 use crate::modular::value_at;
@@ -18,11 +18,9 @@ pub struct Posted {
     pub rest: Vec<u8>,
 }
 
-/// Members with any keys.
+/// Members with keys as the numbers give them.
 pub fn any_members(figures: Figures, numbers: &mut Numbers) -> Members {
-    let secret_keys = list(numbers, figures.n, proper(figures).group.q - 1);
-    let secret_keys: Vec<u32> = secret_keys.iter().map(|x| 1 + x).collect();
-    Members::new(figures, &secret_keys)
+    Members::new(figures, &secret_keys(&proper(figures), numbers))
 }
 
 /// The lines of any polynomial, and its opening.

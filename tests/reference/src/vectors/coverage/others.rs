@@ -204,7 +204,7 @@ fn lines_with_other_faults(cases: impl Iterator<Item = &'static Case<'static>>) 
             behind.insert(refused_in(case, case.round));
         }
     }
-    assert_eq!(found, [1, 2, 8, 3, 6, 4, 17].map(Some).into());
+    assert_eq!(found, [1, 2, 8, 3, 6, 22, 4, 17].map(Some).into());
     assert_eq!(behind, [None, Some(6), Some(7), Some(9), Some(10)].into());
 }
 
@@ -248,7 +248,7 @@ fn boards_with_other_faults() {
             ends.insert((round == 0, end.replace("refused ", "")));
         }
     }
-    for end in ["4", "5", "12", "6", "14", "13"] {
+    for end in ["4", "5", "12", "6", "22", "14", "13"] {
         assert!(ends.contains(&(true, end.to_string())), "{end}");
         assert!(ends.contains(&(false, end.to_string())), "{end}");
     }

@@ -1,6 +1,6 @@
 //! Tests that the cases with a table have every class of tables, in every operation that is lent one.
 
-use super::{all, cases, refusal, Case, NUMBERS};
+use super::{all, before_tables, refusal, Case, NUMBERS};
 use crate::group::Group;
 use crate::primes::is_prime;
 use crate::record::{self, SIZE};
@@ -15,14 +15,14 @@ const OPERATIONS: [u32; 15] = [2, 3, 4, 5, 6, 7, 8, 9, 10, 11, 15, 17, 18, 20, 2
 const LINES: u32 = 12;
 const TEXT: u32 = 13;
 
-/// The cases from the first with a table on.
-fn lent() -> &'static [Case<'static>] {
-    &all()[cases().len()..]
+/// The cases with a table, and those that lend one.
+fn lent() -> impl Iterator<Item = &'static Case<'static>> {
+    let is_lent = |case: &&Case| case.operation == 22 || !case.table.is_empty();
+    all().iter().filter(is_lent)
 }
 
 fn lent_to(operation: u32) -> impl Iterator<Item = &'static Case<'static>> {
-    let cases = lent().iter();
-    cases.filter(move |case| case.operation == operation)
+    lent().filter(move |case| case.operation == operation)
 }
 
 /// The number by which a case is refused, that of the text by its last line where it is the only one.
@@ -80,7 +80,7 @@ fn faults(table: &[u8]) -> Vec<Vec<u32>> {
 }
 
 /// The number by which a table is refused, from its faults.
-fn expected(table: &[u8]) -> Option<u32> {
+pub fn expected(table: &[u8]) -> Option<u32> {
     if !table.len().is_multiple_of(SIZE) || table.len() > 256 {
         return Some(3);
     }
@@ -92,7 +92,7 @@ fn expected(table: &[u8]) -> Option<u32> {
 
 /// The tables, each once.
 fn tables() -> BTreeSet<&'static [u8]> {
-    lent().iter().map(|case| case.table).collect()
+    lent().map(|case| case.table).collect()
 }
 
 #[test]
@@ -106,10 +106,7 @@ fn every_table_is_refused_by_its_first_fault() {
 #[test]
 fn a_tables_number_is_every_operations_answer() {
     let mut last = (&[][..], None);
-    for case in lent()
-        .iter()
-        .filter(|case| ![14, 16, 19, 22].contains(&case.operation))
-    {
+    for case in lent().filter(|case| ![14, 16, 19, 22].contains(&case.operation)) {
         if case.table != last.0 {
             last = (case.table, expected(case.table));
         }
@@ -366,7 +363,7 @@ fn nothing_is_written_where_a_table_is_refused() {
 /// The built-in groups as a table give the same answers to all cases from before tables.
 #[test]
 fn a_table_of_the_built_in_groups_changes_nothing() {
-    let before = cases();
+    let before = before_tables();
     let length: usize = before.iter().map(|case| SIZE + case.payload.len()).sum();
     let table = table::bytes(&BUILT_IN);
     let header = record::bytes([[22, 0, 0, 0, 0, 0, 0, table.len() as u32]]);

@@ -52,5 +52,5 @@ fn faulty(vectors: &mut Vectors, numbers: &mut Numbers) {
     forging::openings(vectors, five, &all);
     forging::shares(vectors, five, &all);
     // With these numbers one of the three is accepted by luck.
-    forging::uncarried(vectors, FOUR.with_round(1), 3, &mut Numbers::new(22));
+    forging::uncarried(vectors, FOUR.with_round(1), 3, &mut numbers.of_seed(22));
 }

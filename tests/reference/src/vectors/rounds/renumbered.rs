@@ -14,7 +14,8 @@ const TWO: Figures = Figures::of(3, 2, 1);
 pub fn add(vectors: &mut Vectors, numbers: &mut Numbers) {
     for (round, other) in OTHERS {
         let seed = u64::from(numbers.word());
-        let [old, new] = [round, other].map(|round| everything(TWO.with_round(round), seed));
+        let [old, new] =
+            [round, other].map(|round| everything(TWO.with_round(round), numbers.of_seed(seed)));
         vectors.load(&new.board());
         of_another(vectors, &old, &new);
         one_kind(vectors, &old, &new);
@@ -23,8 +24,7 @@ pub fn add(vectors: &mut Vectors, numbers: &mut Numbers) {
 }
 
 /// Everything posted in a round; the same keys and polynomials in each.
-pub fn everything(figures: Figures, seed: u64) -> Posted {
-    let mut numbers = Numbers::new(seed);
+pub fn everything(figures: Figures, mut numbers: Numbers) -> Posted {
     let members = any_members(figures, &mut numbers);
     Posted::everything(&members, &mut numbers)
 }

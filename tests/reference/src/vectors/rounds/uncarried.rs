@@ -5,7 +5,7 @@ use super::super::faults::InRound;
 use super::super::judge_dealing::{self, Case};
 use super::super::sample::{keys, list, proper};
 use super::super::Vectors;
-use crate::dealing::{deal, judge_dealing};
+use crate::dealing::deal;
 use crate::numbers::Numbers;
 use crate::record::SIZE;
 use crate::round::Figures;
@@ -38,7 +38,7 @@ pub fn accepted(figures: Figures, numbers: &mut Numbers) -> Case {
     loop {
         let exponents = list(numbers, round.n, round.group.q);
         deal(&round, 1, &case.keys, &exponents, &nonces, &mut case.lines);
-        if judge_dealing(figures, 1, &case.keys, &case.lines).is_ok() {
+        if case.judged().is_ok() {
             return case;
         }
     }

@@ -16,7 +16,7 @@ type Part<'a> = (&'a dyn Fn(&Record) -> bool, Option<u32>, Option<u32>);
 pub fn add(vectors: &mut Vectors, numbers: &mut Numbers) {
     for pair in crossings(Figures::of(3, 3, 2)) {
         let seed = u64::from(numbers.word());
-        let [other, own] = pair.map(|figures| everything(figures, seed));
+        let [other, own] = pair.map(|figures| everything(figures, numbers.of_seed(seed)));
         vectors.load(&own.board());
         one_kind(vectors, &other, &own);
         some_records(vectors, &other, &own);

@@ -5,7 +5,7 @@ use super::super::judge_share::Case;
 use super::super::rounds::{dealings, shares};
 use super::super::sample::fours;
 use super::super::{judge_dealing, judge_share, write_dealing, write_share, Vectors};
-use crate::numbers::Numbers;
+use crate::numbers::{Keys, Numbers};
 use crate::round::{Figures, FOUR};
 
 pub fn add(vectors: &mut Vectors, numbers: &mut Numbers) {
@@ -23,6 +23,10 @@ pub fn add(vectors: &mut Vectors, numbers: &mut Numbers) {
     lines::refused(vectors, four, &all);
     refused::add(vectors, four, &all);
     // With these numbers some of the dealings are accepted by luck.
+    let seed = match numbers.keys {
+        Keys::Any => 23,
+        Keys::Distinct => 28,
+    };
     let first = FOUR.with_round(1).with_first(1);
-    forging::uncarried(vectors, first, 3, &mut Numbers::new(23));
+    forging::uncarried(vectors, first, 3, &mut numbers.of_seed(seed));
 }

@@ -66,7 +66,7 @@ fn shares(vectors: &mut Vectors, figures: Figures, firsts: [u32; 3], numbers: &m
 /// The boards have the same records, and the same text beside each set.
 fn boards(vectors: &mut Vectors, figures: Figures, firsts: [u32; 3], numbers: &mut Numbers) {
     let seed = u64::from(numbers.word());
-    let boards = firsts.map(|first| everything(figures.with_first(first), seed));
+    let boards = firsts.map(|first| everything(figures.with_first(first), numbers.of_seed(seed)));
     vectors.load(&boards[0].board());
     let texts = boards.each_ref().map(|posted: &Posted| posted.add(vectors));
     for (posted, text) in boards.iter().zip(&texts) {

@@ -7,7 +7,7 @@ use crate::numbers::Numbers;
 use crate::round::Figures;
 
 /// Tables of a proper one that are refused, each by its number.
-fn refused(proper: &[u8]) -> Vec<(u32, &'static [u8])> {
+pub fn refused(proper: &[u8]) -> Vec<(u32, &'static [u8])> {
     let two = changed(proper, 0, 4, 1);
     vec![
         (3, kept(proper[..1].to_vec())),

@@ -6,6 +6,7 @@ use super::groups::lent;
 use crate::record;
 use crate::table::BUILT_IN;
 use std::collections::BTreeMap;
+use std::ops::Range;
 
 /// How many cases of one operation there are for one answer, or one number of a refusal.
 const OF_EACH: usize = 4;
@@ -52,37 +53,59 @@ fn alone(case: &Case) -> Vec<u8> {
 }
 
 /// Cases of every operation and of every class of answers, spread over all that there are.
-fn chosen<'a>(all: &'a [Case<'a>]) -> Vec<&'a Case<'a>> {
-    let mut classes: BTreeMap<(u32, String), Vec<&Case>> = BTreeMap::new();
-    for case in all
-        .iter()
-        .filter(|case| OPERATIONS.contains(&case.operation))
-    {
+fn chosen(all: &[Case], range: Range<usize>) -> Vec<usize> {
+    let mut classes: BTreeMap<(u32, String), Vec<usize>> = BTreeMap::new();
+    for place in range {
+        let case = &all[place];
+        let is_lent = OPERATIONS.contains(&case.operation) && case.table.is_empty();
         let is_on_base = matches!(case.operation, 11..=13 | 17 | 18);
         let is_short = case.payload.len() <= LONGEST && case.answer.len() <= LONGEST;
-        if is_short && (!is_on_base || case.board().len() <= LONGEST) {
+        if is_lent && is_short && (!is_on_base || case.board().len() <= LONGEST) {
             let of_class = classes.entry((case.operation, class(case)));
-            of_class.or_default().push(case);
+            of_class.or_default().push(place);
         }
     }
-    let spread = |cases: Vec<&'a Case<'a>>| {
-        let step = cases.len().div_ceil(OF_EACH);
-        cases.into_iter().step_by(step)
+    let spread = |places: Vec<usize>| {
+        let step = places.len().div_ceil(OF_EACH);
+        places.into_iter().step_by(step)
     };
-    classes.into_values().flat_map(spread).collect()
+    let mut chosen: Vec<usize> = classes.into_values().flat_map(spread).collect();
+    chosen.sort_by_key(|&place| (all[place].round, all[place].first));
+    chosen
 }
 
+/// Of the cases from before tables.
 pub fn add(vectors: &mut Vectors) {
+    let (stdin, before) = (vectors.stdin.clone(), vectors.before.clone());
+    let all = cases::read(&stdin, &before).expect("the answers to the input");
+    let is_lent = |case: &Case| !case.table.is_empty();
+    let first = all.iter().position(is_lent).unwrap_or(all.len());
+    let chosen = chosen(&all, 0..first);
+    add_chosen(vectors, &chosen);
+}
+
+/// Of the cases from a place on that are lent no table. Their classes are those of their answers now.
+pub fn add_from(vectors: &mut Vectors, place: usize) {
     let (stdin, stdout) = (vectors.stdin.clone(), vectors.stdout.clone());
     let all = cases::read(&stdin, &stdout).expect("the answers to the input");
-    let before = all.iter().take_while(|case| case.table.is_empty()).count();
+    let chosen = chosen(&all, place..all.len());
+    add_chosen(vectors, &chosen);
+}
+
+/// The cases of these places again, with the built-in groups as a table.
+fn add_chosen(vectors: &mut Vectors, chosen: &[usize]) {
+    let stdin = vectors.stdin.clone();
+    let [stdout, before] = [vectors.stdout.clone(), vectors.before.clone()];
+    let [now, before] =
+        [&stdout, &before].map(|text| cases::read(&stdin, text).expect("the answers to the input"));
     vectors.load(&[]);
     vectors.lend(lent(&BUILT_IN));
-    let mut chosen = chosen(&all[..before]);
-    chosen.sort_by_key(|case| (case.round, case.first));
-    for case in chosen {
+    for &place in chosen {
+        let case = &now[place];
         vectors.in_round(case.round, case.first);
+        vectors.count += 1;
         vectors.stdin.extend(alone(case));
-        vectors.stdout += &format!("{} {}\n{}", case.name, case.answer, case.text);
+        vectors.stdout += &case.line();
+        vectors.before += &before[place].line();
     }
 }

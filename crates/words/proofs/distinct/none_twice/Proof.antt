@@ -1,20 +1,20 @@
--- `members::none_twice` meets its contract. The loop's invariant: no number stands twice exactly if none does from index i on.
+-- `distinct::none_twice` meets its contract. The loop's invariant: no number stands twice exactly if none does from index i on.
 use mathlib.Core.Path.{_≡_, refl, sym, _∙_}
 use Prim.Native.Nat.{_-_, _≤_}
 use native.Mathlib.Omega.{arith}
 use borrow.Author.Needs.{needs}
 use borrow.Author.Tests.{not-true, not-false}
 use lib.ListN.{length, drop}
 use Rattle.words.specs.Lists.{noneTwice}
 use Rattle.words.proofs.Tests.{twice-next, twice-stop, twice-end}
-use Rattle.sharing.proofs.members.none_twice.Statement.{statement}
-use Rattle.sharing.proofs.members.none_twice.Tie as tie
+use Rattle.words.proofs.distinct.none_twice.Statement.{statement}
+use Rattle.words.proofs.distinct.none_twice.Tie as tie
 
 abbrev Inv-loop : tie.InvT-loop
-Inv-loop ms i₀ i = (i ≤ length ms) × (noneTwice ms ≡ noneTwice (drop i ms))
+Inv-loop xs i₀ i = (i ≤ length xs) × (noneTwice xs ≡ noneTwice (drop i xs))
 
 abbrev μ-loop : tie.MeasureT-loop
-μ-loop ms i₀ i = length ms - i
+μ-loop xs i₀ i = length xs - i
 
 loop-holds : tie.Need-loop-holds Inv-loop μ-loop
 loop-holds c = (search needs, refl)
@@ -49,7 +49,7 @@ loop-again c =
 
 returns-2 : tie.Need-returns-2 Inv-loop μ-loop
 returns-2 c =
-    let e : c .before .loop .i ≡ length (c .before .before .before .args .ms .now) = omega arith in
+    let e : c .before .loop .i ≡ length (c .before .before .before .args .xs .now) = omega arith in
     sym (c .before .loop .inv .1 ∙ twice-end _ _ e)
 
 pub none-twice-spec : {M : Type 1} → statement M
