@@ -9,4 +9,5 @@ pub mod Keys
 pub mod Presence
 pub mod Picked
 pub mod Operation
+pub mod FarFirst
 pub mod Ties

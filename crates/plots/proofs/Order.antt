@@ -1,4 +1,4 @@
--- The order of plots: by rank, equal ranks by number. Beside this only Keys.antt and Ties.antt know how ties are settled.
+-- The order of plots: by rank, equal ranks by number. Beside this only Keys.antt, FarFirst.antt and Ties.antt know how ties are settled.
 use mathlib.Core.Path.{_≡_, refl, _∙_}
 use mathlib.Core.Bool.{Bool, true, false}
 use Prim.Native.Nat.{ℕ, _<_}
@@ -13,14 +13,14 @@ use Rattle.plots.specs.Claims.{PlotsOrder}
 module _ (r : ℕ → ℕ) where
   pub data Before (a b : ℕ) : Type 0 where
     by-rank : r a < r b → Before a b
-    by-number : r a ≡ r b → a < b → Before a b
+    by-number : r a ≡ r b → b < a → Before a b
 
   pub before-true : (a b : ℕ) → comesBefore r a b ≡ true → Before a b
   unfolding comesBefore
   before-true a b = by-test (eqb (r a) (r b)) refl
     where
-      by-test : (t : Bool) → eqb (r a) (r b) ≡ t → pick t (ltb a b) (ltb (r a) (r b)) ≡ true → Before a b
-      by-test true e h = by-number (eqb-true (r a) (r b) e) (ltb-true a b h)
+      by-test : (t : Bool) → eqb (r a) (r b) ≡ t → pick t (ltb b a) (ltb (r a) (r b)) ≡ true → Before a b
+      by-test true e h = by-number (eqb-true (r a) (r b) e) (ltb-true b a h)
       by-test false e h = by-rank (ltb-true (r a) (r b) h)
 
   pub true-before : (a b : ℕ) → Before a b → comesBefore r a b ≡ true
@@ -52,8 +52,8 @@ module _ (r : ℕ → ℕ) where
   unfolding comesBefore
   other-first a b n = by-test (eqb (r a) (r b)) refl
     where
-      by-test : (t : Bool) → eqb (r a) (r b) ≡ t → pick t (ltb a b) (ltb (r a) (r b)) ≡ false → Before b a
-      by-test true e h = by-number (omega (arith, eqb-true (r a) (r b) e)) (omega (arith, ltb-false a b h, n))
+      by-test : (t : Bool) → eqb (r a) (r b) ≡ t → pick t (ltb b a) (ltb (r a) (r b)) ≡ false → Before b a
+      by-test true e h = by-number (omega (arith, eqb-true (r a) (r b) e)) (omega (arith, ltb-false b a h, n))
       by-test false e h = by-rank (omega (arith, ltb-false (r a) (r b) h, eqb-false (r a) (r b) e))
 
 pub plots-order : PlotsOrder

@@ -21,7 +21,7 @@ module _ {before : ℕ → ℕ → Bool} (O : StrictOrder before) where
   never-both {a} {b} e f = false-true (sym (O .one-way a b e) ∙ f)
 
   -- what x comes before is not x
-  not-itself : {x y : ℕ} → before x y ≡ true → y ≡ x → ⊥
+  pub not-itself : {x y : ℕ} → before x y ≡ true → y ≡ x → ⊥
   not-itself {x} e f = let h = subst (λ (z : ℕ). before x z ≡ true) f e in never-both h h
 
   -- the first k come before every number that is not among them
@@ -63,19 +63,13 @@ module _ {before : ℕ → ℕ → Bool} (O : StrictOrder before) where
           let b = present-all (λ (y : ℕ). before l y ≡ true) a L h (o .0) in
           c a (present-more a l L h) (absent-behind a x xs (λ f. not-itself b (f ∙ e)) ∙ g) .1
 
--- ---- the claims
-module _ (v radius N k : ℕ) where
-  abbrev before : ℕ → ℕ → Bool
-  before = comesBefore (rank v radius)
-
-  abbrev order : StrictOrder before
-  order = plots-order (rank v radius)
-
+-- ---- the plots 1 to N in an order
+module _ {before : ℕ → ℕ → Bool} (O : StrictOrder before) (N : ℕ) where
   abbrev plots : List ℕ
   plots = sorted before (upFrom 1 N)
 
   plots-ordered : Ordered before plots
-  plots-ordered = sorted-ordered before order (upFrom 1 N) (up-distinct 1 N)
+  plots-ordered = sorted-ordered before O (upFrom 1 N) (up-distinct 1 N)
 
   plots-within : All (λ x. (1 ≤ x) × (x ≤ N)) plots
   plots-within =
@@ -85,24 +79,54 @@ module _ (v radius N k : ℕ) where
   plots-all : (a : ℕ) → 1 ≤ a → a ≤ N → absent a plots ≡ false
   plots-all a h l = sorted-absent before a (upFrom 1 N) ∙ up-present 1 N a h (omega arith)
 
+  -- a list of some of them, in order, each before every one that is not in it
+  pub record Leading (xs : List ℕ) : Type 0 where
+    pub within : All (λ x. (1 ≤ x) × (x ≤ N)) xs
+    pub in-order : Ordered before xs
+    pub first : (a : ℕ) → 1 ≤ a → a ≤ N → absent a xs ≡ true → All (λ b. before b a ≡ true) xs
+
+  -- the first k are such a list, and every such list is the first of them
+  pub start-leads : (k : ℕ) → Leading (take k plots)
+  start-leads k =
+      record {
+        within = All-take (λ (x : ℕ). (1 ≤ x) × (x ≤ N)) k plots plots-within;
+        in-order = Pairwise-take (λ (x y : ℕ). before x y ≡ true) k plots plots-ordered;
+        first = λ a l u e. first-before O k plots plots-ordered a (plots-all a l u) e;
+      }
+
+  pub only-start : {xs : List ℕ} → Leading xs → xs ≡ take (length xs) plots
+  only-start {xs} l =
+      leads-start O plots xs plots-ordered (l .in-order) (All-to xs (λ x u. plots-all x (u .0) (u .1)) (l .within))
+      (λ a e g. let u = present-all (λ (x : ℕ). (1 ≤ x) × (x ≤ N)) a plots e plots-within in l .first a (u .0) (u .1) g)
+
+  pub start-length : {k : ℕ} → k ≤ N → length (take k plots) ≡ k
+  start-length {k} h = length-take-le k plots (omega (arith, sorted-length before (upFrom 1 N), up-length 1 N))
+
+-- ---- the claims
+module _ (v radius N k : ℕ) where
+  abbrev before : ℕ → ℕ → Bool
+  before = comesBefore (rank v radius)
+
+  abbrev order : StrictOrder before
+  order = plots-order (rank v radius)
+
   picked-is : k ≤ N → IsPick v radius N k (picked v radius N k)
   unfolding picked
   picked-is h =
-      let o = Pairwise-take (λ (x y : ℕ). before x y ≡ true) k plots plots-ordered in
+      let l = start-leads order N k in
       record {
-        size = length-take-le k plots (omega (arith, sorted-length before (upFrom 1 N), up-length 1 N));
-        plots = All-take (λ (x : ℕ). (1 ≤ x) × (x ≤ N)) k plots plots-within;
-        different = Pairwise-to (take k plots) (λ x y e f. not-itself order e (sym f)) o;
-        in-order = o;
-        first = λ a l u e. first-before order k plots plots-ordered a (plots-all a l u) e;
+        size = start-length order N h;
+        plots = l .within;
+        different = Pairwise-to (take k (plots order N)) (λ x y e f. not-itself order e (sym f)) (l .in-order);
+        in-order = l .in-order;
+        first = l .first;
       }
 
   only-picked : (xs : List ℕ) → IsPick v radius N k xs → xs ≡ picked v radius N k
   unfolding picked
   only-picked xs I =
-      leads-start order plots xs plots-ordered (I .in-order) (All-to xs (λ x w. plots-all x (w .0) (w .1)) (I .plots))
-      (λ a e f. let w = present-all (λ (x : ℕ). (1 ≤ x) × (x ≤ N)) a plots e plots-within in I .first a (w .0) (w .1) f)
-      ∙ ap (λ (i : ℕ). take i plots) (I .size)
+      only-start order N (record { within = I .plots; in-order = I .in-order; first = I .first })
+      ∙ ap (λ (i : ℕ). take i (plots order N)) (I .size)
 
 pub picked-exactly : PickedExactly
 picked-exactly v radius N k h xs =

@@ -18,5 +18,5 @@ equal-ranks =
     record {
       lower = ranks .0;
       higher = ranks .1;
-      first = true-before (rank 211 15) 1630 1857 (by-number (ranks .0 ∙ sym (ranks .1)) (omega arith));
+      first = true-before (rank 211 15) 1857 1630 (by-number (ranks .1 ∙ sym (ranks .0)) (omega arith));
     }

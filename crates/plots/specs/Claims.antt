@@ -3,13 +3,14 @@ use mathlib.Core.Path.{_≡_}
 use mathlib.Core.Bool.{Bool, true, false}
 use mathlib.Core.List.{List}
 use mathlib.Core.Logic.{_↔_}
-use Prim.Native.Nat.{ℕ, _≤_}
+use Prim.Native.Nat.{ℕ, _≤_, _<_}
+use lib.Dec.{ltb}
 use lib.ListN.{length, take}
-use Rattle.words.specs.Lists.{All, Pairwise, Distinct, absent}
+use Rattle.words.specs.Lists.{All, Pairwise, Distinct, absent, upFrom}
 use Rattle.words.specs.Checks.{value, refused}
 use Rattle.group.specs.declared.Element.{Element}
 use Rattle.plots.specs.Rank.{rank, comesBefore}
-use Rattle.plots.specs.Picked.{picked, pickOutcome, lentPlots}
+use Rattle.plots.specs.Picked.{sorted, picked, pickOutcome, lentPlots}
 
 -- ---- the order of plots
 -- of two different plots one comes before the other, and never both
@@ -61,8 +62,26 @@ SamePlots =
     → lentPlots T number v radius N k out ≡ lentPlots T' number' v radius N k out'
 
 -- ---- plots of equal rank
--- the value 211 gives two plots of radius 15 one rank, and the lower number comes first
+-- of two plots of equal rank the one of the higher number stands first in the list, and where that one is left out the other is too
+pub record FarFirst (v radius N k : ℕ) : Type 0 where
+  pub in-list : Pairwise (λ x y. rank v radius x ≡ rank v radius y → y < x) (picked v radius N k)
+  pub left-out : (a : ℕ) → 1 ≤ a → a ≤ N → absent a (picked v radius N k) ≡ true
+      → All (λ x. rank v radius x ≡ rank v radius a → a < x) (picked v radius N k)
+
+abbrev pub PickedFarFirst : Type 0
+PickedFarFirst = (v radius N k : ℕ) → k ≤ N → FarFirst v radius N k
+
+-- a list of the first k plots by whatever order goes by different ranks is the picked one, where no plot of the list has the rank of another
+-- one of the N: so a list that was printed while the lower number came first
+abbrev pub RanksAlone : Type 0
+RanksAlone =
+    (v radius N k : ℕ) → k ≤ N → (before : ℕ → ℕ → Bool) → StrictOrder before
+    → ((a b : ℕ) → (rank v radius a ≡ rank v radius b → ⊥) → before a b ≡ ltb (rank v radius a) (rank v radius b))
+    → ((a : ℕ) → 1 ≤ a → a ≤ N → All (λ x. rank v radius x ≡ rank v radius a → x ≡ a) (take k (sorted before (upFrom 1 N))))
+    → take k (sorted before (upFrom 1 N)) ≡ picked v radius N k
+
+-- equal ranks occur: the value 211 gives two plots of radius 15 one rank, and the higher number comes first
 pub record EqualRanks : Type 0 where
   pub lower : rank 211 15 1630 ≡ 143263563
   pub higher : rank 211 15 1857 ≡ 143263563
-  pub first : comesBefore (rank 211 15) 1630 1857 ≡ true
+  pub first : comesBefore (rank 211 15) 1857 1630 ≡ true

@@ -20,6 +20,6 @@ rankMessage v radius plot = plotTag ∷ radius ∷ wordsBytes (v ∷ plot ∷ []
 unfoldable pub rank : ℕ → ℕ → ℕ → ℕ
 rank v radius plot = bigEndian 0 (take 4 (hash (rankMessage v radius plot)))
 
--- the plot a comes before the plot b: the smaller rank first, equal ranks by the lower number
+-- the plot a comes before the plot b: the smaller rank first, equal ranks by the higher number, which is farther from the road
 unfoldable pub comesBefore : (ℕ → ℕ) → ℕ → ℕ → Bool
-comesBefore r a b = pick (eqb (r a) (r b)) (ltb a b) (ltb (r a) (r b))
+comesBefore r a b = pick (eqb (r a) (r b)) (ltb b a) (ltb (r a) (r b))

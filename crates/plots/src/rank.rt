@@ -27,11 +27,19 @@ fn rank(value: Element, radius: u8, plot: u32) -> u32
     d.w0
 }
 
-// The key of a plot: its rank, and its number behind it.
+// The key of a plot: its rank, and behind it its number counted down from the largest word, for of equal ranks the higher number comes
+// first.
 fn key(value: Element, radius: u8, plot: u32) -> u64
     ensures { λ r. ⌜ r ≡ keyOf (rank (value .0) radius) plot ⌝ }
 {
-    rank(value, radius, plot) as u64 * 4294967296 + plot as u64
+    rank(value, radius, plot) as u64 * 4294967296 + (4294967295 - plot as u64)
+}
+
+// The plot of a key.
+fn plot_of(key: u64) -> u32
+    ensures { λ r. ⌜ r ≡ plotOf key ⌝ }
+{
+    4294967295 - (key % 4294967296) as u32
 }
 
 // Writes the key of each plot from 1 on. Internal: callers ensure at most 4,096 plots.
@@ -53,7 +61,7 @@ pub(crate) fn put_plots(keys: &[u64], out: &mut [u32])
 {
     let mut i = 0;
     while i < out.len() {
-        out[i] = (keys[i] % 4294967296) as u32;
+        out[i] = plot_of(keys[i]);
         i += 1;
     }
 }

@@ -1,6 +1,9 @@
-//! The cases that were there before keys had to be distinct, and which of them are answered otherwise now. Their answers of then
-//! are in tests/earlier; those of the cases that were there before records had a round's number, before rounds had a first round
-//! under the new rule, before shares could be added, or before there were tables of groups, are from before that.
+//! The cases that were there before the higher of two plots of equal rank came first, and which of them are answered otherwise
+//! now. Their answers of then are in tests/earlier; those of the cases that were there before records had a round's number, before
+//! rounds had a first round under the new rule, before shares could be added, before there were tables of groups, or before keys
+//! had to be distinct, are from before that.
+
+mod plots;
 
 use crate::record::{self, Record, ADDED, KEY, LINE, OPENING, SIZE};
 use crate::vectors::cases::{read, Case};
@@ -25,11 +28,12 @@ fn of_another_round(case: &Case, bytes: &[u8]) -> Option<(usize, Record)> {
     places.find(|(_, record)| record[7] != case.round)
 }
 
-/// What is at fault in a case that is answered otherwise. Where it is refused by 22, two keys are equal; and where it was
-/// refused by 4 on a board, which counts before 22, that has a reason too. A number that counts before 22 stays as it was.
+/// What is at fault in a case that is answered otherwise. A list of plots has two of equal rank. Where a case is refused by 22,
+/// two keys are equal; and where it was refused by 4 on a board, which counts before 22, that has a reason too. A number that
+/// counts before 22 stays as it was.
 fn fault(before: &Case, now: &Case) -> Option<String> {
     if refusal(now) != Some(EQUAL) {
-        return of_word(now);
+        return of_word(now).or_else(|| plots::at_fault(before, now));
     }
     let keys = of_keys(now)?;
     match (now.operation, refusal(before)) {

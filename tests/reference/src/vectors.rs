@@ -36,6 +36,7 @@ mod rules;
 pub mod sample;
 pub mod splices;
 pub mod tables;
+pub mod ties;
 mod write_dealing;
 mod write_share;
 
@@ -264,13 +265,15 @@ const EARLIER: [fn(&mut Vectors); 17] = [
     tables::add,
 ];
 
-/// Every case: the earlier ones, whose keys are as they were drawn, and behind these the cases of equal and of distinct keys.
+/// Every case: the earlier ones, whose keys are as they were drawn; behind these the cases of equal and of distinct keys, and
+/// those of plots of equal rank.
 pub fn all() -> Vectors {
     let mut vectors = earlier(Keys::Any, None);
     let known = Known::of(&vectors);
     let others = earlier(Keys::Distinct, Some(known));
     tables::add_same(&mut vectors);
     keys::add(&mut vectors, &others);
+    ties::add(&mut vectors);
     vectors
 }
 

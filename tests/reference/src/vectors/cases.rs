@@ -38,6 +38,14 @@ impl Case<'_> {
         &self.payload[..self.arguments[5] as usize]
     }
 
+    /// The list of a case of picking plots that passes.
+    pub fn picked(&self) -> Option<Vec<u32>> {
+        let digits = (self.operation == 15).then(|| self.answer.strip_prefix("passed "))??;
+        let places = (0..digits.len()).step_by(8);
+        let numbers = places.map(|k| u32::from_str_radix(digits.get(k..k + 8)?, 16).ok());
+        numbers.collect()
+    }
+
     /// The board of a case on boards, or the chain of one on chains: the base's first bytes with the changes.
     pub fn board(&self) -> Vec<u8> {
         let taken = &self.base[..self.arguments[4] as usize];

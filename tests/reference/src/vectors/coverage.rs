@@ -11,13 +11,13 @@ mod others;
 mod rounds;
 mod rules;
 mod tables;
+mod ties;
 mod ways;
 
 use super::cases::{read, Case};
 use super::{once, Vectors};
 use crate::draw;
 use crate::group::group;
-use crate::plots::rank;
 use crate::record::{self, Record, SIZE};
 use std::collections::BTreeSet;
 use std::sync::OnceLock;
@@ -303,28 +303,6 @@ fn sizes_of_sets_and_boards() {
         "1 1 1", "1 10 10", "2 31 16", "3 1 1", "3 31 1", "3 31 16", "3 31 31",
     ] {
         assert!(rounds.contains(round), "{round}");
-    }
-}
-
-/// Plots 1,630 and 1,857 by value 211. The shorter list is cut between the two.
-#[test]
-fn plots_of_equal_ranks() {
-    let [shorter, longer] = [141, 142].map(|count| picked([2, 211, 15, 4096, count]));
-    assert_eq!(longer[140..], [1630, 1857]);
-    assert_eq!(shorter, longer[..141]);
-    let [without, with] = [1856, 1857].map(|total| picked([2, 211, 15, total, 141]));
-    assert!(without.contains(&1630) && !without.contains(&1857));
-    assert!(with.windows(2).any(|pair| pair == [1630, 1857]));
-}
-
-/// The last two plots of these lists.
-#[test]
-fn equal_ranks_of_both_radii() {
-    for (value, radius, count) in [(211, 15, 142), (920, 15, 1584), (810, 10, 3150)] {
-        let mut list = picked([2, value, u32::from(radius), 4096, count]);
-        let last = list.split_off(list.len() - 2);
-        assert!(last[0] < last[1]);
-        assert_eq!(rank(value, radius, last[0]), rank(value, radius, last[1]));
     }
 }
 

@@ -21,7 +21,7 @@ const ROOM: u32 = 4100;
 const RADII: [u32; 2] = [10, 15];
 
 /// The most plots.
-const MOST: u32 = 4096;
+pub const MOST: u32 = 4096;
 
 /// Values of group 2 with a radius for which two of 4,096 plots have equal ranks, and the place of the first of the
 /// two, counted from 1. Those of value 211 are the plots 1,630 and 1,857.
@@ -160,8 +160,8 @@ fn ends(vectors: &mut Vectors) {
     }
 }
 
-/// Lists that end between two plots of equal rank, with the second, and behind; and lists of so few plots that the
-/// second is the last, or is none.
+/// Lists that end between two plots of equal rank, with both, and behind; and lists of so few plots that the higher of the
+/// two is the last, or is none.
 fn ties(vectors: &mut Vectors) {
     let (value, radius, place) = TIES[0];
     for count in [place, place + 1, place + 2] {

@@ -1,6 +1,6 @@
 -- `key` meets its contract: the rank is what rank hands back.
 use mathlib.Core.Path.{ap}
-use Prim.Native.Nat.{ℕ, _+_, _*_}
+use Prim.Native.Nat.{ℕ, _+_, _-_, _*_}
 use borrow.Author.Needs.{needs}
 use Rattle.plots.specs.Sorting.{keyOf}
 use Rattle.plots.proofs.rank.key.Statement.{statement}
@@ -15,12 +15,15 @@ cast-result c = search needs
 mul-result : tie.Need-mul-result
 mul-result c = search needs
 
+sub-result : tie.Need-sub-result
+sub-result c = search needs
+
 add-result : tie.Need-add-result
 add-result c = search needs
 
 returns : tie.Need-returns
 unfolding keyOf
-returns c = ap (λ (x : ℕ). x * 4294967296 + c .before .args .plot) (c .rank .ensures)
+returns c = ap (λ (x : ℕ). x * 4294967296 + (4294967295 - c .before .args .plot)) (c .rank .ensures)
 
 pub key-spec : {M : Type 1} → statement M
-key-spec = tie.close (tie.spec rank-requires cast-result mul-result add-result returns)
+key-spec = tie.close (tie.spec rank-requires cast-result mul-result sub-result add-result returns)

@@ -18,19 +18,19 @@ abbrev μ-loop : tie.MeasureT-loop
 μ-loop keys out₀ i₀ out i = length out₀ - i
 
 loop-holds : tie.Need-loop-holds Inv-loop μ-loop
-loop-holds c = (refl, record { size = c .pre ∙ sym (map-length plotOf (c .args .keys .now)); front = refl })
+loop-holds c = (refl, record { size = c .before .before .pre ∙ sym (map-length plotOf (c .before .before .args .keys .now)); front = refl })
+
+mul-plot-of : tie.Need-mul-plot-of Inv-loop μ-loop
+mul-plot-of c = search needs
+
+shared-slice-read-plot-of : tie.Need-shared-slice-read-plot-of Inv-loop μ-loop
+shared-slice-read-plot-of c = search needs
+
+plot-of-requires : tie.Need-plot-of-requires Inv-loop μ-loop
+plot-of-requires c κs = search needs
 
 mul-out : tie.Need-mul-out Inv-loop μ-loop
 mul-out c = search needs
-
-shared-slice-read-out : tie.Need-shared-slice-read-out Inv-loop μ-loop
-shared-slice-read-out c = search needs
-
-cast-out : tie.Need-cast-out Inv-loop μ-loop
-cast-out c = search needs
-
-mul-out-2 : tie.Need-mul-out-2 Inv-loop μ-loop
-mul-out-2 c = search needs
 
 slice-write-out : tie.Need-slice-write-out Inv-loop μ-loop
 slice-write-out c = search needs
@@ -42,12 +42,12 @@ loop-less : tie.Need-loop-less Inv-loop μ-loop
 loop-less c = search needs
 
 loop-again : tie.Need-loop-again Inv-loop μ-loop
-unfolding plotOf
 loop-again c =
-    let l = c .before .before .loop in
-    let ks = c .before .before .before .args .keys .now in (
+    let l = c .before .before .before .loop in
+    let ks = c .before .before .before .before .before .before .args .keys .now in (
       search needs,
-      copied-next (l .inv .1) (omega (arith, map-length plotOf ks)) (sym (map-at plotOf ks (l .i) 0 0 (omega (arith, l .inv .1 .size, map-length plotOf ks)))),
+      copied-next (l .inv .1) (omega (arith, map-length plotOf ks))
+          (c .plot-of .ensures ∙ sym (map-at plotOf ks (l .i) 0 0 (omega (arith, l .inv .1 .size, map-length plotOf ks)))),
     )
 
 same-length : tie.Need-same-length Inv-loop μ-loop
@@ -63,10 +63,10 @@ put-plots-spec =
     Inv-loop
     μ-loop
     loop-holds
+    mul-plot-of
+    shared-slice-read-plot-of
+    plot-of-requires
     mul-out
-    shared-slice-read-out
-    cast-out
-    mul-out-2
     slice-write-out
     add-i
     loop-less

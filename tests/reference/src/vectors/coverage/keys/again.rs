@@ -5,7 +5,7 @@ use crate::vectors::cases::read;
 use crate::vectors::once;
 use std::collections::BTreeMap;
 
-/// The earlier cases with their answers from before keys had to be distinct.
+/// The earlier cases with the answers that they would have if two members could have one key.
 fn before() -> Vec<Case<'static>> {
     let vectors = once();
     let mut cases = read(&vectors.stdin, &vectors.before).unwrap();
@@ -42,7 +42,7 @@ fn figures(case: &Case) -> (Vec<u8>, Vec<u32>) {
     (case.table.to_vec(), figures)
 }
 
-/// The earlier cases that are answered otherwise now are all refused by 22, and have equal keys.
+/// The earlier cases that would be answered otherwise are all refused by 22, and have equal keys.
 #[test]
 fn earlier_cases_with_equal_keys() {
     let mut count = BTreeMap::new();
