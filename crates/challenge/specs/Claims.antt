@@ -34,7 +34,7 @@ WordByWord = (q a : ℕ) (ws : List ℕ) → remainderBehind q (a % q) ws ≡ bi
 
 -- worked figures: what the digest of "abc" gives in group 3, in rounds around the first one under the new rule
 abbrev pub largeIn : ℕ → ℕ → Setting
-largeIn round first = settingIn [] (record { group = 3; n = 1; t = 1; round = round; first = first })
+largeIn round first = settingIn [] (record { group = 3; n = 1; t = 1; round = round; «first_new_round» = first })
 
 abbrev pub abcIn : ℕ → ℕ → ℕ
 abcIn round first = challengeOf (largeIn round first) (97 ∷ 98 ∷ 99 ∷ [])

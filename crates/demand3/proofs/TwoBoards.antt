@@ -182,7 +182,7 @@ module _ {A : Asked} (to : (J : Judges) (S : Setting) (b : List ℕ) (f : ℕ �
         refuses = λ b k u. sym (front-outcome (roundChecks T R) (boardDrawChecks J (settingIn T R) b) k u (drawValue J (settingIn T R) b));
         proper = round-proper T R;
         draw-in = draw-in T R;
-        same-draw = λ m. over-rounds T R m (R .round) (R .first);
+        same-draw = λ m. over-rounds T R m (R .round) (R .«first_new_round»);
         same-draw-across = over-rounds T R;
         same-draw-by-tables = over-tables T R;
       }

@@ -65,7 +65,7 @@ exponent e = record { 0 = e }
 
 -- a round of group 1 with n members and t = 2
 abbrev pub roundOf : ℕ → Round
-roundOf n = record { group = 1; n = n; t = 2; round = 0; first = 0 }
+roundOf n = record { group = 1; n = n; t = 2; round = 0; «first_new_round» = 0 }
 
 -- the proof of member 1's line, with the response r: v = 9 to the base g and Y = 8 to the base y = 12 under the challenge 5
 abbrev pub proofWith : ℕ → Equality

@@ -116,7 +116,7 @@ rule-alone T R first e =
 pub groups-alone : GroupsAlone
 unfolding judged judgedElse roundChecks
 groups-alone T₁ T₂ R m₁ m₂ e =
-    let among : List Group → Setting = λ Gs. record { group = groupOf Gs (R .group); number = R .group; n = R .n; t = R .t; round = R .round; whole = takesWhole (R .first) (R .round) } in
+    let among : List Group → Setting = λ Gs. record { group = groupOf Gs (R .group); number = R .group; n = R .n; t = R .t; round = R .round; whole = takesWhole (R .«first_new_round») (R .round) } in
     let figures : List Group → List Check = λ Gs. roundFigures Gs R in
     record {
       setting = ap among e;

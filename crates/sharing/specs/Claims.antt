@@ -118,7 +118,7 @@ pub record SameOver (T₁ : List ℕ) (R₁ : Round) (T₂ : List ℕ) (R₂ : R
 
 abbrev pub RuleAlone : Type 1
 RuleAlone =
-    (T : List ℕ) (R : Round) (first : ℕ) → takesWhole first (R .round) ≡ takesWhole (R .first) (R .round)
+    (T : List ℕ) (R : Round) (first : ℕ) → takesWhole first (R .round) ≡ takesWhole (R .«first_new_round») (R .round)
     → SameOver T (withNumbers (R .round) first R) T R
 
 -- Of an accepted table nothing but its groups enters: another one with the same groups, or no bytes where these are the built-in ones,

@@ -13,7 +13,7 @@ use Rattle.sharing.specs.declared.Round.{Round}
 use Rattle.sharing.specs.declared.Setting.{Setting}
 
 abbrev pub smallRound : Round
-smallRound = record { group = 1; n = 4; t = 2; round = 0; first = 0 }
+smallRound = record { group = 1; n = 4; t = 2; round = 0; «first_new_round» = 0 }
 
 abbrev pub small : Setting
 small = settingIn [] smallRound

@@ -34,7 +34,7 @@ takesWhole first round = not (eqb first 0) && leb first round
 -- T is the table's bytes
 abbrev pub settingIn : List ℕ → Round → Setting
 settingIn T R =
-    record { group = groupOf (groupsOf T) (R .group); number = R .group; n = R .n; t = R .t; round = R .round; whole = takesWhole (R .first) (R .round) }
+    record { group = groupOf (groupsOf T) (R .group); number = R .group; n = R .n; t = R .t; round = R .round; whole = takesWhole (R .«first_new_round») (R .round) }
 
 -- the same setting in the round of another number, under either rule
 abbrev pub inRound : ℕ → Bool → Setting → Setting
@@ -42,7 +42,7 @@ inRound round whole S = record { group = S .group; number = S .number; n = S .n;
 
 -- the same round's figures with another number, and with another first round under the new rule
 abbrev pub withNumbers : ℕ → ℕ → Round → Round
-withNumbers round first R = record { group = R .group; n = R .n; t = R .t; round = round; first = first }
+withNumbers round first R = record { group = R .group; n = R .n; t = R .t; round = round; «first_new_round» = first }
 
 -- n from 1 to 31 and below q, t from 1 to n
 unfoldable pub inRange : ℕ → ℕ → ℕ → Bool

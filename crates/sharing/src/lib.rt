@@ -27,12 +27,13 @@ pub use weights::degree_passes;
 
 // A round's figures as they are lent, unjudged: the group's number, the number of members, the threshold, the round's number and
 // the first round whose exponents come from the whole digest, 0 for none.
+#[repr(C)]
 pub struct Round {
     pub group: u32,
     pub n: u32,
     pub t: u32,
     pub round: u32,
-    pub first: u32,
+    pub first_new_round: u32,
 }
 
 // What operations work on: the group, its number, the number of members, the threshold, the round's number and whether exponents

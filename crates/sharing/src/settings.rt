@@ -53,7 +53,7 @@ pub fn setting_in(table: &[u8], rd: Round) -> SettingAnswer
         n: rd.n,
         t: rd.t,
         round: rd.round,
-        whole: takes_whole(rd.first, rd.round),
+        whole: takes_whole(rd.first_new_round, rd.round),
     })
 }
 

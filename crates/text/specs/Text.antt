@@ -131,7 +131,7 @@ setChecks s =
 abbrev pub roundIn : List ℕ → Round
 roundIn s =
     let r = recordIn s in
-    record { group = setGroup r; n = setN r; t = setT r; round = setRound r; first = setFirst r }
+    record { group = setGroup r; n = setN r; t = setT r; round = setRound r; «first_new_round» = setFirst r }
 
 -- ---- the files: groups.tab comes first
 abbrev pub fileChecks : List ℕ → List ℕ → List Check

@@ -79,7 +79,7 @@ pub fn draw_text(table: &[u8], set: &[u8], board: &[u8], out: &mut [u8; 1024]) -
         n: r.w2,
         t: r.w3,
         round: r.w4,
-        first: r.w5,
+        first_new_round: r.w5,
     };
     match setting_in(table, rd) {
         SettingAnswer::Refused(k) => put_line(out, 0, b"refused", k),

@@ -1,9 +1,9 @@
 //! The boards of tests/forged as the product's definitions write them, from what a record of each kind is up to the boards.
 //! They are of round 0.
 
-use crate::draw::SET;
 use crate::forge::{made, Board, Parts};
-use crate::record::{Record, ADDED, KEY, LINE, OPENING, SHARE};
+use crate::model::draw::SET;
+use crate::model::record::{Record, ADDED, KEY, LINE, OPENING, SHARE};
 
 /// The name of the round's number, which every kind has.
 const ROUND: &str = "round";

@@ -1,10 +1,10 @@
 //! The example rounds: the one beside `draw`, in which everything happens, and the scope paper's, in which nothing does.
 
-use crate::draw::{set_record, text, BOARD_FILE, SET_FILE};
-use crate::modular::value_at;
+use crate::model::draw::{set_record, text, BOARD_FILE, SET_FILE};
+use crate::model::modular::value_at;
+use crate::model::record::{self, Record, KEY, OPENING, SHARE};
+use crate::model::round::{Figures, FOUR};
 use crate::posting::Members;
-use crate::record::{self, Record, KEY, OPENING, SHARE};
-use crate::round::{Figures, FOUR};
 
 /// The bytes of a round's two files.
 #[derive(Clone)]
@@ -27,7 +27,7 @@ const DEALERS: [(&[u32], [u32; 4]); 4] = [
 /// Everyone has dealt and opened, and has opened his share of every dealing. But dealer 2's polynomial is too long,
 /// dealer 3's lines are missing, dealer 4's opening is not right, and neither is member 1's share of his dealing.
 fn records() -> Vec<Record> {
-    let members = Members::new(FOUR, &SECRET_KEYS);
+    let members = Members::new(FOUR.round().expect("a proper round"), &SECRET_KEYS);
     let q = members.round.group.q;
     let mut records = members.key_records();
     for (dealer, (polynomial, nonces)) in (1..).zip(DEALERS) {
@@ -81,19 +81,9 @@ pub fn of_keys_alone() -> Round {
 #[cfg(test)]
 mod tests {
     use super::*;
-    use crate::board::{judge_board, Secret, Verdict};
-    use crate::record::{LINE, SIZE};
-    use crate::share::judge_share;
 
     fn text_of(round: &Round) -> String {
         text(&[], &round.set, &round.board)
-    }
-
-    /// The text of the example round after a change of its records.
-    fn changed(change: impl Fn(&mut Vec<Record>)) -> String {
-        let mut records = records();
-        change(&mut records);
-        text(&[], &round().set, &record::bytes(records))
     }
 
     #[test]
@@ -112,87 +102,11 @@ mod tests {
         assert_eq!(stdout, text_of(&round()).into_bytes());
     }
 
-    /// The shares that dealer 4's secret rests on lie behind the first 1,024 bytes.
-    #[test]
-    fn the_last_bytes_count() {
-        let Round { set, board } = round();
-        assert_eq!(board.len(), 1152);
-        assert!(
-            text(&[], &set, &board[..1024]).ends_with("dealer 4 stuck\naccepted 2\nrefused 13\n")
-        );
-    }
-
     #[test]
     fn the_scope_papers_round() {
         let round = of_keys_alone();
         assert_eq!(round.set.len() + round.board.len(), 96);
         let expected = "round 1 2 1\ndealer 1 none\ndealer 2 none\naccepted 0\nrefused 14\n";
         assert_eq!(text_of(&round), expected);
-    }
-
-    /// Every class of verdict that ends in a draw, and its secret.
-    #[test]
-    fn verdicts_of_each_class() {
-        let judged = judge_board(FOUR, &round().board).unwrap();
-        let group = FOUR.round().unwrap().group;
-        let [first, last] = [3, 5].map(|s| group.power(group.h, s));
-        let expected = [
-            Verdict::Accepted(Secret::Opened(first)),
-            Verdict::Refused(9),
-            Verdict::None,
-            Verdict::Accepted(Secret::Recovered(last)),
-        ];
-        assert_eq!(judged.verdicts, expected);
-        assert_eq!(judged.draw, Ok(group.product(first, last)));
-    }
-
-    /// Of dealer 4's shares the first one posted is bad, and the others are not.
-    #[test]
-    fn a_bad_share_before_good_ones() {
-        let records = records();
-        let posted = |kind, dealer| move |r: &&Record| r[..2] == [kind, dealer];
-        let lines: Vec<&Record> = records.iter().filter(posted(LINE, 4)).collect();
-        let shares = records.iter().filter(posted(SHARE, 4));
-        let answers = shares.zip(lines).map(|(share, line)| {
-            let key = records[share[2] as usize - 1][3];
-            judge_share(FOUR, 4, share[2], key, line[4], &record::bytes([*share])).err()
-        });
-        let answers: Vec<Option<u32>> = answers.collect();
-        assert_eq!(answers, [Some(10), None, None, None]);
-    }
-
-    /// The text is the same without each record that is ignored, and without the shares that are not needed. The bad
-    /// share does not stand in for a good one, and the opening counts where it is right.
-    #[test]
-    fn what_is_ignored() {
-        let text = text_of(&round());
-        for place in [
-            [OPENING, 4, 0],
-            [SHARE, 4, 1],
-            [OPENING, 2, 0],
-            [OPENING, 3, 0],
-        ] {
-            assert_eq!(changed(|records| records.retain(|r| r[..3] != place)), text);
-        }
-        let by =
-            |members: [u32; 2]| move |r: &Record| r[..2] != [SHARE, 4] || members.contains(&r[2]);
-        assert_eq!(changed(|records| records.retain(by([2, 3]))), text);
-        let stuck = changed(|records| records.retain(by([1, 2])));
-        assert!(stuck.ends_with("dealer 4 stuck\naccepted 2\nrefused 13\n"));
-        let opened = changed(|records| *figure(records, [OPENING, 4, 0]) = 5);
-        assert!(opened.ends_with("dealer 4 opened 8\naccepted 2\ndraw 13\n"));
-    }
-
-    /// A challenge of 0 would prove nothing.
-    #[test]
-    fn no_challenge_is_0() {
-        let board = round().board;
-        for record in board.chunks_exact(SIZE).map(record::read) {
-            match record[0] {
-                LINE => assert_ne!(record[6], 0),
-                SHARE => assert_ne!(record[4], 0, "{record:?}"),
-                _ => {}
-            }
-        }
     }
 }

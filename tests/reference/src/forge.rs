@@ -1,14 +1,14 @@
 //! Boards of group 1 that show what a dealer or a member with a computer can do in a group so small: he searches for
 //! figures that pass a check by luck, which takes about q tries.
 
-use crate::dealing::judge_dealing;
-use crate::draw::{set_record, SET_FILE};
-use crate::modular::value_at;
+use crate::model::dealing::judge_dealing;
+use crate::model::draw::{set_record, SET_FILE};
+use crate::model::modular::value_at;
+use crate::model::record::{self, Record};
+use crate::model::round::FOUR;
+use crate::model::share::added::judge_added;
+use crate::model::share::judge_share;
 use crate::posting::Members;
-use crate::record::{self, Record};
-use crate::round::FOUR;
-use crate::share::added::judge_added;
-use crate::share::judge_share;
 
 /// The secret keys, the polynomials of the first two dealers and the nonces of the first, for both pairs of boards.
 const SECRET_KEYS: [u32; 4] = [5, 2, 7, 3];
@@ -17,7 +17,7 @@ const SECOND: [u32; 2] = [6, 4];
 const NONCES: [u32; 4] = [8, 1, 10, 6];
 
 fn members() -> Members {
-    Members::new(FOUR, &SECRET_KEYS)
+    Members::new(FOUR.round().expect("a proper round"), &SECRET_KEYS)
 }
 
 /// The values of a polynomial at the members.
@@ -168,152 +168,4 @@ pub fn files() -> [(&'static str, Vec<u8>); 8] {
         boards.map(|b| (b.file, parts.bytes(&b)));
     let set = (SET_FILE, record::bytes([set_record(FOUR)]));
     [set, opened, silent, forged, low, high, added, forged_added]
-}
-
-#[cfg(test)]
-mod tests {
-    use super::*;
-    use crate::board::{judge_board, Secret, Verdict};
-    use crate::record::{ADDED, LINE, SHARE};
-
-    /// Those of group 1.
-    const G: u32 = 4;
-    const H: u32 = 9;
-
-    fn carried() -> [Vec<u8>; 3] {
-        let [_, (_, opened), (_, silent), (_, forged), ..] = files();
-        [opened, silent, forged]
-    }
-
-    fn uncarried() -> [Vec<u8>; 2] {
-        let [_, _, _, _, (_, low), (_, high), ..] = files();
-        [low, high]
-    }
-
-    fn added() -> [Vec<u8>; 2] {
-        let [.., (_, added), (_, forged)] = files();
-        [added, forged]
-    }
-
-    /// The secrets of dealers 1 and 2, and the draw value.
-    fn secrets(board: &[u8]) -> ([Secret; 2], u32) {
-        let judged = judge_board(FOUR, board).unwrap();
-        let [Verdict::Accepted(first), Verdict::Accepted(second), Verdict::None, Verdict::None] =
-            judged.verdicts[..]
-        else {
-            panic!("two dealings are accepted");
-        };
-        assert_eq!(judged.accepted, 2);
-        ([first, second], judged.draw.unwrap())
-    }
-
-    /// A challenge of 0 would prove nothing.
-    #[test]
-    fn no_challenge_is_0() {
-        for (name, bytes) in files() {
-            for record in bytes.chunks_exact(32).map(record::read) {
-                match record[0] {
-                    LINE => assert_ne!(record[6], 0, "{name}"),
-                    SHARE | ADDED => assert_ne!(record[4], 0, "{name}"),
-                    _ => {}
-                }
-            }
-        }
-    }
-
-    #[test]
-    fn no_polynomial_carries_the_dealing() {
-        let members = members();
-        let commitments: Vec<u32> = uncarried_lines(&members).iter().map(|l| l[3]).collect();
-        for constant in 0..11 {
-            for slope in 0..11 {
-                let powers = values(&[constant, slope]).map(|e| members.round.group.power(G, e));
-                assert_ne!(powers[..], commitments);
-            }
-        }
-    }
-
-    /// Up to the shares the boards are the same, and every share on them is h to the exponent of its line's v.
-    #[test]
-    fn both_boards_of_an_uncarried_dealing_have_true_shares() {
-        let [one, two] = uncarried();
-        let before = 32 * (4 + 8 + 1);
-        assert_eq!(one[..before], two[..before]);
-        let group = members().round.group;
-        for board in [one, two] {
-            let records: Vec<Record> = board.chunks_exact(32).map(record::read).collect();
-            for share in &records[13..] {
-                let v = records[4 + share[2] as usize - 1][3];
-                let is_exponent = |&e: &u32| group.power(G, e) == v;
-                let exponent = (0..11).find(is_exponent).unwrap();
-                assert_eq!(share[3], group.power(H, exponent));
-            }
-        }
-    }
-
-    #[test]
-    fn an_uncarried_dealing_has_two_draw_values() {
-        let [one, two] = uncarried();
-        let ([Secret::Recovered(_), second], draw) = secrets(&one) else {
-            panic!("the first dealing is recovered");
-        };
-        let ([Secret::Recovered(_), same], other) = secrets(&two) else {
-            panic!("the first dealing is recovered");
-        };
-        assert_eq!(second, same);
-        assert_ne!(draw, other);
-    }
-
-    #[test]
-    fn silence_leaves_the_draw_value_and_a_forged_share_changes_it() {
-        let [opened, silent, forged] = carried();
-        let changed = silent
-            .chunks(32)
-            .zip(forged.chunks(32))
-            .filter(|(a, b)| a != b);
-        assert_eq!(changed.count(), 1);
-        let group = members().round.group;
-        let [first, second] = [FIRST, SECOND].map(|polynomial| group.power(H, polynomial[0]));
-        let draw = group.product(first, second);
-        let second = Secret::Opened(second);
-        assert_eq!(secrets(&opened), ([Secret::Opened(first), second], draw));
-        assert_eq!(secrets(&silent), ([Secret::Recovered(first), second], draw));
-        let (secrets_of_forged, other) = secrets(&forged);
-        assert_eq!(secrets_of_forged[1], second);
-        assert_ne!(draw, other);
-    }
-
-    /// Dealer 1 is stuck on both. Honest added shares give what he and dealer 2 would have opened, and a forged one does not.
-    #[test]
-    fn added_shares_give_the_draw_value_and_a_forged_one_changes_it() {
-        let [honest, forged] = added();
-        let changed = honest
-            .chunks(32)
-            .zip(forged.chunks(32))
-            .filter(|(a, b)| a != b);
-        assert_eq!(changed.count(), 1);
-        let second = Secret::Opened(members().round.group.power(H, SECOND[0]));
-        let [opened, ..] = carried();
-        let (_, draw) = secrets(&opened);
-        assert_eq!(secrets(&honest), ([Secret::Stuck, second], draw));
-        let (secrets_of_forged, other) = secrets(&forged);
-        assert_eq!(secrets_of_forged, [Secret::Stuck, second]);
-        assert_ne!(draw, other);
-    }
-
-    /// They are h to the value of the sum of both polynomials, which the products of v are g to.
-    #[test]
-    fn added_shares_are_true_to_the_sum() {
-        let group = members().round.group;
-        let sum = [0, 1].map(|k| (FIRST[k] + SECOND[k]) % 11);
-        let [honest, _] = added();
-        let records: Vec<Record> = honest.chunks_exact(32).map(record::read).collect();
-        for (k, value) in values(&sum).into_iter().enumerate() {
-            let product = group.product(records[4 + k][3], records[8 + k][3]);
-            assert_eq!(product, group.power(G, value));
-        }
-        let shares = records[13..].iter().map(|share| share[3]);
-        let expected = values(&sum).map(|value| group.power(H, value));
-        assert!(shares.eq(expected[..2].iter().copied()));
-    }
 }

@@ -1,124 +1,109 @@
-//! The second program. It has the product's operations written again from the papers, shares no code and no table
-//! with the product, and writes the vectors that the product is run on.
+//! The second program. It has the product's operations written again from the papers, the model; the product is linked into it, and both
+//! are compared on cases by hand and by a seed.
 
-mod answer;
+mod aimed;
 mod bench;
-mod board;
-mod chain;
-mod dealing;
+mod boards;
+mod case;
+mod compare;
 mod definitions;
-mod draw;
-mod earlier;
-mod equality;
 mod example;
-mod exponent;
+mod expected;
 mod forge;
-mod group;
-mod message;
-mod modular;
+mod generate;
+mod guarded;
+mod interrupted;
+mod model;
 mod numbers;
-mod plots;
+mod operations;
 mod posting;
-mod primes;
-mod record;
-mod replay;
-mod round;
+mod product;
 mod rounds;
-mod sha256;
-mod share;
-mod sharing;
-mod table;
+mod smallest;
+mod source;
+mod ties;
 mod vectors;
 
-use round::Figures;
+use model::record::hex;
+use model::{draw, group, primes, sha256};
+use operations::Operation;
 use std::error::Error;
-use std::io::{self, BufWriter, Write};
-use std::num::ParseIntError;
 use std::path::Path;
 use std::process::ExitCode;
 use std::{env, fs};
 
 type Done = Result<(), Box<dyn Error>>;
 
-const USAGE: &str =
-    "usage: reference vectors DIR | forge DIR | example DIR | draw DIR | largest | digest FILE
-       reference rounds DIR | board GROUP N T ROUND FIRST opened|recovered|added none|large DIR
-       reference case FILE | repeat OPERATION COUNT DIR | replay FILE | earlier LENGTH FILE";
+const USAGE: &str = "usage: reference compare SEED COUNT [OPERATION] | show OPERATION SEED NUMBER
+       reference vectors DIR | forge DIR | example DIR | rounds DIR | draw DIR
+       reference bench .. | largest | digest FILE";
 
 /// The primes p and q of group 3: the largest below 2^32.
-fn largest() -> (u64, u64) {
-    primes::largest_safe_prime(1 << 32)
-}
-
-/// Writes the program's input and its expected output to `stdin` and `stdout` in a folder.
-fn write_vectors(folder: &Path) -> Done {
-    if !group::group(&[], 3).is_ok_and(|group| (group.p.into(), group.q.into()) == largest()) {
+fn largest() -> Result<(u32, u32), Box<dyn Error>> {
+    let found = primes::largest_safe_prime(1 << 32);
+    let group = group::group(&[], 3).map_err(|number| format!("refused {number}"))?;
+    if (group.p.into(), group.q.into()) != found {
         return Err("group 3 is not the largest below 2^32".into());
     }
-    let vectors = vectors::all();
-    fs::write(folder.join("stdin"), vectors.stdin)?;
-    fs::write(folder.join("stdout"), vectors.stdout)?;
-    Ok(())
+    Ok((group.p, group.q))
 }
 
 /// Writes files of these names and bytes to a folder.
-fn write_files(folder: &str, files: &[(&str, Vec<u8>)]) -> Done {
+fn write_files<N: AsRef<str>>(folder: &str, files: &[(N, Vec<u8>)]) -> Done {
     for (name, bytes) in files {
-        fs::write(Path::new(folder).join(name), bytes)?;
+        fs::write(Path::new(folder).join(name.as_ref()), bytes)?;
     }
     Ok(())
 }
 
-/// The figures of a round in the order of its set.
-fn figures(words: [&str; 5]) -> Result<Figures, ParseIntError> {
-    let [number, n, t, round, first] = words;
-    let figures = Figures::of(number.parse()?, n.parse()?, t.parse()?);
-    let figures = figures.with_round(round.parse()?);
-    Ok(figures.with_first(first.parse()?))
+/// The files that are committed in tests/vectors.
+fn write_vectors(folder: &str) -> Done {
+    write_files(folder, &vectors::files())?;
+    write_files(
+        folder,
+        &[("answers.digests", vectors::digests().into_bytes())],
+    )
 }
 
-/// Writes the files of a round with a table, whose draw value comes from a source, to a folder.
-fn write_board(figures: Figures, source: &str, table: &str, folder: &str) -> Done {
-    let source = bench::Source::named(source).ok_or("there is no such source")?;
-    let table = bench::table_named(table).ok_or("there is no such table")?;
-    write_files(folder, &bench::files(figures.with_table(table), source))
+/// One case with both answers.
+fn show(operation: &str, seed: u64, number: u64) -> Done {
+    let operation = Operation::named(operation).ok_or("there is no such operation")?;
+    let (case, label) = compare::drawn(operation, seed, number);
+    let product = (operation.product)(&case, &mut guarded::Memory::new());
+    let text = compare::shown(operation, &case, [&product, &(operation.model)(&case)]);
+    print!("{label}\n{text}");
+    Ok(())
 }
 
-fn run(words: &[String]) -> Done {
-    let words: Vec<&str> = words.iter().map(String::as_str).collect();
+fn compare(seed: &str, count: &str, only: Option<&str>) -> Done {
+    let named = |name| Operation::named(name).ok_or("there is no such operation");
+    let only = only.map(named).transpose()?;
+    interrupted::tell();
+    if compare::run(seed.parse()?, count.parse()?, only) {
+        return Ok(());
+    }
+    Err("product and model differ, or a number was not reached".into())
+}
+
+fn run(words: &[&str]) -> Done {
     match words[..] {
-        ["vectors", folder] => write_vectors(Path::new(folder))?,
+        ["compare", seed, count] => compare(seed, count, None)?,
+        ["compare", seed, count, operation] => compare(seed, count, Some(operation))?,
+        ["show", operation, seed, number] => show(operation, seed.parse()?, number.parse()?)?,
+        ["vectors", folder] => write_vectors(folder)?,
+        ["rounds", folder] => println!("{}", rounds::write(Path::new(folder))?),
+        ["bench", ref rest @ ..] => bench::run(rest)?,
         ["forge", folder] => {
             write_files(folder, &forge::files())?;
             write_files(folder, &[("definitions", definitions::text().into_bytes())])?;
         }
         ["example", folder] => write_files(folder, &example::files())?,
         ["draw", folder] => print!("{}", draw::text_of(Path::new(folder))),
-        ["rounds", folder] => println!("{}", rounds::write(Path::new(folder))?),
-        ["board", number, n, t, round, first, source, table, folder] => {
-            let figures = figures([number, n, t, round, first])?;
-            write_board(figures, source, table, folder)?;
-        }
-        ["case", file] => io::stdout().write_all(&bench::case(&fs::read(file)?))?,
-        ["repeat", operation, count, folder] => {
-            let files = bench::operations::files(operation, count.parse()?);
-            write_files(folder, &files.ok_or("there is no such operation")?)?;
-        }
-        ["replay", file] => {
-            let mut out = BufWriter::new(io::stdout().lock());
-            replay::replay(&fs::read(file)?, &mut out)?;
-            out.flush()?;
-        }
-        ["earlier", length, file] => {
-            let earlier = fs::read_to_string(file)?;
-            let changed = earlier::changed(&vectors::all(), length.parse()?, &earlier)?;
-            print!("{changed}");
-        }
         ["largest"] => {
-            let (p, q) = largest();
+            let (p, q) = largest()?;
             println!("{p} {q}");
         }
-        ["digest", file] => println!("{}", vectors::hex(&sha256::sha256(&fs::read(file)?))),
+        ["digest", file] => println!("{}", hex(&sha256::sha256(&fs::read(file)?))),
         _ => return Err(USAGE.into()),
     }
     Ok(())
@@ -126,6 +111,7 @@ fn run(words: &[String]) -> Done {
 
 fn main() -> ExitCode {
     let words: Vec<String> = env::args().skip(1).collect();
+    let words: Vec<&str> = words.iter().map(String::as_str).collect();
     match run(&words) {
         Ok(()) => ExitCode::SUCCESS,
         Err(error) => {

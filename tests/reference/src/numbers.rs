@@ -1,44 +1,35 @@
-//! A linear congruential generator: the same varied numbers at every run.
-
-/// How the keys of a round are drawn.
-#[derive(Clone, Copy, Default, Debug, PartialEq)]
-pub enum Keys {
-    /// Such that no two members have one key.
-    #[default]
-    Distinct,
-    /// Each by itself, so that two may be equal. The cases from before keys had to be distinct have such ones.
-    Any,
-}
+//! Numbers by splitmix64: the same at every run, and far apart for neighbouring seeds.
 
 pub struct Numbers {
     state: u64,
-    pub keys: Keys,
+}
+
+/// One step's output of a state.
+fn mixed(state: u64) -> u64 {
+    let z = (state ^ (state >> 30)).wrapping_mul(0xbf58_476d_1ce4_e5b9);
+    let z = (z ^ (z >> 27)).wrapping_mul(0x94d0_49bb_1331_11eb);
+    z ^ (z >> 31)
 }
 
 impl Numbers {
-    /// Numbers by which distinct keys are drawn.
     pub fn new(seed: u64) -> Self {
-        Numbers::with_keys(seed, Keys::Distinct)
+        Numbers { state: seed }
     }
 
-    pub fn with_keys(seed: u64, keys: Keys) -> Self {
-        Numbers { state: seed, keys }
+    /// The numbers of a case: of an operation's name, a seed and a number.
+    pub fn of_case(name: &str, seed: u64, number: u64) -> Self {
+        let step = |state: u64, part: u64| mixed(state.wrapping_add(mixed(part)));
+        let named = name.bytes().fold(0, |state, byte| step(state, byte.into()));
+        Numbers::new(step(step(named, seed), number))
     }
 
-    /// The numbers of another seed, by which keys are drawn in the same way.
-    pub fn of_seed(&self, seed: u64) -> Self {
-        Numbers::with_keys(seed, self.keys)
-    }
-
-    /// The upper half of the next state.
     pub fn word(&mut self) -> u32 {
-        let product = self.state.wrapping_mul(6_364_136_223_846_793_005);
-        self.state = product.wrapping_add(1_442_695_040_888_963_407);
-        (self.state >> 32) as u32
+        self.state = self.state.wrapping_add(0x9e37_79b9_7f4a_7c15);
+        (mixed(self.state) >> 32) as u32
     }
 
     pub fn below(&mut self, limit: u32) -> u32 {
-        self.word() % limit
+        ((u64::from(self.word()) * u64::from(limit)) >> 32) as u32
     }
 
     pub fn bytes(&mut self, length: usize) -> Vec<u8> {

@@ -1,26 +1,23 @@
 //! What members whose secret keys are known post on a board.
 
-use crate::dealing::deal;
-use crate::record::{self, Record, KEY, OPENING, SIZE};
-use crate::round::{Figures, Round};
-use crate::share::{added, write, Kind};
+use crate::model::dealing::deal;
+use crate::model::record::{self, Record, KEY, OPENING, SIZE};
+use crate::model::round::Round;
+use crate::model::share::{added, write, Kind};
 
 /// The members of a round with their keys.
 pub struct Members {
-    pub figures: Figures,
     pub round: Round,
     pub secret_keys: Vec<u32>,
     pub keys: Vec<u32>,
 }
 
 impl Members {
-    pub fn new(figures: Figures, secret_keys: &[u32]) -> Members {
-        let round = figures.round().expect("a proper round");
+    pub fn new(round: Round, secret_keys: &[u32]) -> Members {
         let keys = secret_keys
             .iter()
             .map(|&x| round.group.power(round.group.h, x));
         Members {
-            figures,
             keys: keys.collect(),
             secret_keys: secret_keys.to_vec(),
             round,

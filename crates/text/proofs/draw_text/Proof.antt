@@ -61,7 +61,7 @@ enum-known-s c = search needs
 
 -- the round of the record that is read
 abbrev roundOf : Record → Round
-roundOf r = record { group = r .w1; n = r .w2; t = r .w3; round = r .w4; first = r .w5 }
+roundOf r = record { group = r .w1; n = r .w2; t = r .w3; round = r .w4; «first_new_round» = r .w5 }
 
 put-board-requires : tie.Need-put-board-requires
 put-board-requires c κs =
