@@ -1,21 +1,38 @@
 -- Every member has one key record: 12 says that the search finds one, and two of one member would have one address. His key is his own,
 -- by 22, which refuses every other board.
-use mathlib.Core.Path.{sym, _∙_}
+use mathlib.Core.Path.{_≡_, sym, ap, _∙_}
+use mathlib.Core.Bool.{Bool, true}
+use mathlib.Core.List.{List, []}
 use mathlib.Core.Logic.{inr}
+use Prim.Native.Nat.{ℕ}
 use native.Mathlib.Omega.{arith}
 use borrow.Author.Tests.{ltb-true}
+use Rattle.words.specs.Choice.{pick}
+use Rattle.words.specs.Lists.{all, filled}
 use Rattle.words.specs.Bytes.{recordsIn, recordAt}
 use Rattle.words.proofs.Tests.{all-map}
 use Rattle.words.proofs.Stages.{rest-first}
 use Rattle.sharing.specs.Setting.{members}
+use Rattle.sharing.proofs.EachMember.{members-exactly, members-own}
 use Rattle.records.specs.Layout.{keyKind}
 use Rattle.records.specs.Keys.{isKey, keyChecks}
-use Rattle.records.proofs.Members.{members-exactly, members-own}
 use Rattle.records.proofs.ProperKeys.{keys-proper, equal-keys}
 use Rattle.board.specs.Board.{keyPlace, hasKey, keyIn, keysIn, formChecks, boardKeyChecks, boardChecks}
+use Rattle.board.specs.Loops.{foundKeys}
 use Rattle.board.specs.Claims.{KeysExact, BoardKeyTwice}
+use Rattle.board.specs.declared.FoundKeys.{FoundKeys}
 use Rattle.board.proofs.Order.{reached, shapes, sorted}
 use Rattle.board.proofs.Places.{at-true, true-at, record-is, only-record}
+
+-- the keys as they are found: whether every member has one, and then they
+module _ (n : ℕ) (b : List ℕ) {F : FoundKeys} (e : F ≡ foundKeys n b) where
+  pub found-all : F .complete ≡ all (hasKey b) (members n)
+  unfolding foundKeys
+  found-all = ap (λ (x : FoundKeys). x .complete) e
+
+  pub found-filled : all (hasKey b) (members n) ≡ true → F .ys ≡ filled 31 (keysIn n b)
+  unfolding foundKeys
+  found-filled h = ap (λ (x : FoundKeys). x .ys) e ∙ ap (λ (t : Bool). filled 31 (pick t (keysIn n b) [])) h
 
 pub keys-exact : KeysExact
 unfolding keyChecks

@@ -19,11 +19,12 @@ use Rattle.words.proofs.Stages.{met-both, rest-first}
 use Rattle.words.proofs.Tests.{false-true, and-true, pick-false}
 use Rattle.sharing.specs.Setting.{isMember, members}
 use Rattle.sharing.specs.declared.Setting.{Setting}
+use Rattle.sharing.proofs.EachMember.{member-exactly}
 use Rattle.records.specs.Layout.{keyKind, lineKind, openingKind, shareKind, addedKind, dealerOf, memberOf, roundOf}
 use Rattle.records.specs.Layout.{isKeyRecord, isLineRecord, isOpeningRecord, isShareRecord}
 use Rattle.records.specs.Keys.{keyChecks}
-use Rattle.records.proofs.Members.{member-exactly}
-use Rattle.board.specs.Board.{isShaped, isBelow, isAbove, oneRecordChecks, recordChecks, lengthChecks, formChecks, hasKey, keysIn, boardKeyChecks, boardChecks}
+use Rattle.board.specs.Board.{isShaped, isBelow, isAbove, inOrder, oneRecordChecks, recordChecks, lengthChecks, formChecks, hasKey, keysIn, boardKeyChecks, boardChecks}
+use Rattle.board.specs.Loops.{noRecord}
 use Rattle.board.specs.Sorted.{Sorted}
 use Rattle.board.specs.Claims.{RecordsOfRound, BoardOfOtherRound}
 
@@ -42,6 +43,7 @@ reached S b m =
 -- ---- one record
 -- what its kind says of it
 pub record Shaped (n : ℕ) (r : Record) : Type 0 where
+  pub known : 0 < r .w0
   pub kind : r .w0 ≤ addedKind
   pub dealer : dealerOf r ≤ n
   pub member : memberOf r ≤ n
@@ -65,13 +67,13 @@ module _ (n : ℕ) (r : Record) where
   key-shaped e h =
       let a = addressed _ e in
       let m = member-exactly n (r .w2) .0 h in
-      record { kind = omega (arith, a .0); dealer = omega (arith, a .1); member = m .1; key = λ o. a .1; line = λ o. absurd (omega (arith, a .0)); opening = λ o. absurd (omega (arith, a .0)); share = λ o. absurd (omega (arith, a .0)); added = λ o. absurd (omega (arith, a .0)) }
+      record { known = omega (arith, a .0); kind = omega (arith, a .0); dealer = omega (arith, a .1); member = m .1; key = λ o. a .1; line = λ o. absurd (omega (arith, a .0)); opening = λ o. absurd (omega (arith, a .0)); share = λ o. absurd (omega (arith, a .0)); added = λ o. absurd (omega (arith, a .0)) }
 
   opening-shaped : isOpeningRecord r ≡ true → isMember n (r .w1) ≡ true → Shaped n r
   opening-shaped e h =
       let a = addressed _ e in
       let d = member-exactly n (r .w1) .0 h in
-      record { kind = omega (arith, a .0); dealer = d .1; member = omega (arith, a .2); key = λ o. absurd (omega (arith, a .0)); line = λ o. absurd (omega (arith, a .0)); opening = λ o. a .2; share = λ o. absurd (omega (arith, a .0)); added = λ o. absurd (omega (arith, a .0)) }
+      record { known = omega (arith, a .0); kind = omega (arith, a .0); dealer = d .1; member = omega (arith, a .2); key = λ o. absurd (omega (arith, a .0)); line = λ o. absurd (omega (arith, a .0)); opening = λ o. a .2; share = λ o. absurd (omega (arith, a .0)); added = λ o. absurd (omega (arith, a .0)) }
 
   -- a line or a share: dealer and member from 1 to n
   module _ (h : isMember n (r .w1) && isMember n (r .w2) ≡ true) where
@@ -81,12 +83,12 @@ module _ (n : ℕ) (r : Record) where
     line-shaped : isLineRecord r ≡ true → Shaped n r
     line-shaped e =
         let a = addressed _ e in
-        record { kind = omega (arith, a .0); dealer = both .0 .1; member = both .1 .1; key = λ o. absurd (omega (arith, a .0)); line = λ o. (e, both .0 .0, both .1 .0); opening = λ o. absurd (omega (arith, a .0)); share = λ o. absurd (omega (arith, a .0)); added = λ o. absurd (omega (arith, a .0)) }
+        record { known = omega (arith, a .0); kind = omega (arith, a .0); dealer = both .0 .1; member = both .1 .1; key = λ o. absurd (omega (arith, a .0)); line = λ o. (e, both .0 .0, both .1 .0); opening = λ o. absurd (omega (arith, a .0)); share = λ o. absurd (omega (arith, a .0)); added = λ o. absurd (omega (arith, a .0)) }
 
     share-shaped : isShareRecord shareKind r ≡ true → Shaped n r
     share-shaped e =
         let a = addressed _ e in
-        record { kind = omega (arith, a .0); dealer = both .0 .1; member = both .1 .1; key = λ o. absurd (omega (arith, a .0)); line = λ o. absurd (omega (arith, a .0)); opening = λ o. absurd (omega (arith, a .0)); share = λ o. (e, both .0 .0, both .1 .0); added = λ o. absurd (omega (arith, a .0)) }
+        record { known = omega (arith, a .0); kind = omega (arith, a .0); dealer = both .0 .1; member = both .1 .1; key = λ o. absurd (omega (arith, a .0)); line = λ o. absurd (omega (arith, a .0)); opening = λ o. absurd (omega (arith, a .0)); share = λ o. (e, both .0 .0, both .1 .0); added = λ o. absurd (omega (arith, a .0)) }
 
   added-shaped : isShareRecord addedKind r ≡ true → eqb (r .w1) 0 && isMember n (r .w2) ≡ true → Shaped n r
   added-shaped e h =
@@ -94,7 +96,7 @@ module _ (n : ℕ) (r : Record) where
       let s = and-true (eqb (r .w1) 0) _ h in
       let d = eqb-true (r .w1) 0 (s .0) in
       let m = member-exactly n (r .w2) .0 (s .1) in
-      record { kind = omega (arith, a .0); dealer = omega (arith, d); member = m .1; key = λ o. absurd (omega (arith, a .0)); line = λ o. absurd (omega (arith, a .0)); opening = λ o. absurd (omega (arith, a .0)); share = λ o. absurd (omega (arith, a .0)); added = λ o. (e, d, m .0) }
+      record { known = omega (arith, a .0); kind = omega (arith, a .0); dealer = omega (arith, d); member = m .1; key = λ o. absurd (omega (arith, a .0)); line = λ o. absurd (omega (arith, a .0)); opening = λ o. absurd (omega (arith, a .0)); share = λ o. absurd (omega (arith, a .0)); added = λ o. (e, d, m .0) }
 
   shaped-true : isShaped n r ≡ true → Shaped n r
   unfolding isShaped
@@ -138,6 +140,10 @@ module _ (r : Record) (k d m : ℕ) where
   below-member (by-dealer g h) e f = absurd (omega arith)
   below-member (by-member g i h) e f = h
 
+-- a record of the table is above the one of kind 0
+pub shaped-above : (n : ℕ) (r : Record) → isShaped n r ≡ true → isAbove noRecord r ≡ true
+shaped-above n r e = true-below noRecord (r .w0) (r .w1) (r .w2) (by-kind (shaped-true n r e .known))
+
 below-both : {r s : Record} {k d m : ℕ} → Below r (s .w0) (s .w1) (s .w2) → Below s k d m → Below r k d m
 below-both (by-kind h) (by-kind l) = by-kind (omega arith)
 below-both (by-kind h) (by-dealer e l) = by-kind (omega arith)
@@ -159,6 +165,12 @@ pub members-rise : {b : List ℕ} → Sorted b → (i j : ℕ) → i < j → j <
 members-rise {b} S i j h l =
     let s = recordAt b j in
     below-member (recordAt b i) (s .w0) (s .w1) (s .w2) (below-true (recordAt b i) (s .w0) (s .w1) (s .w2) (S .ascends i j h l))
+
+-- every record but the first is in order exactly if it is above the one before
+pub order-next : (b : List ℕ) (i : ℕ) → inOrder b (suc i) ≡ isAbove (recordAt b i) (recordAt b (suc i))
+order-next b i =
+    let p : suc i - 1 ≡ i = omega arith in
+    pick-false (eqb (suc i) 0) true _ (ne-eqb (suc i) 0 (λ e. omega arith)) ∙ ap (λ (j : ℕ). isAbove (recordAt b j) (recordAt b (suc i))) p
 
 -- ---- every record
 module _ (S : Setting) (b : List ℕ) where
@@ -185,11 +197,7 @@ module _ (S : Setting) (b : List ℕ) where
     of-round i h = eqb-true (roundOf (recordAt b i)) (S .round) (record-met i h .1 .0)
 
     next-above : (i : ℕ) → suc i < recordsIn b → isAbove (recordAt b i) (recordAt b (suc i)) ≡ true
-    next-above i h =
-        let p : i ≡ suc i - 1 = omega arith in
-        ap (λ (j : ℕ). isAbove (recordAt b j) (recordAt b (suc i))) p
-        ∙ sym (pick-false (eqb (suc i) 0) true _ (ne-eqb (suc i) 0 (λ e. omega arith)))
-        ∙ record-met (suc i) h .1 .1 .0
+    next-above i h = sym (order-next b i) ∙ record-met (suc i) h .1 .1 .0
 
     above : (i j : ℕ) → i < j → j < recordsIn b → isAbove (recordAt b i) (recordAt b j) ≡ true
     above i zero h l = absurd (not-suc-le-zero h)

@@ -13,7 +13,7 @@ use lib.Dec.{ltb, eqb}
 use Rattle.words.specs.Bytes.{recordsIn, recordAt}
 use Rattle.words.specs.declared.Record.{Record}
 use Rattle.words.proofs.Tests.{false-true, and-true, true-and, equal-true, true-equal}
-use Rattle.board.specs.Board.{isBelow, placeOf, isAt, recordBy}
+use Rattle.board.specs.Board.{isBelow, placeOf, isAt, recordPlace}
 use Rattle.board.specs.Sorted.{Sorted}
 use Rattle.board.proofs.Searches.{First, first-passes, first-low}
 use Rattle.board.proofs.Order.{Below, by-kind, by-dealer, by-member, below-true, true-below, below-member, below-trans}
@@ -39,8 +39,8 @@ module _ (b : List ℕ) (k d m : ℕ) where
   pub place-within : placeOf b k d m ≤ recordsIn b
   place-within = omega (arith, place-is .upto)
 
-  pub record-is : First (λ i. isAt (recordAt b i) k d m) 0 (recordsIn b) (recordBy b k d m)
-  unfolding recordBy
+  pub record-is : First (λ i. isAt (recordAt b i) k d m) 0 (recordsIn b) (recordPlace b k d m)
+  unfolding recordPlace
   record-is = first-passes (λ i. isAt (recordAt b i) k d m) 0 (recordsIn b)
 
 module _ {b : List ℕ} (S : Sorted b) where
@@ -98,18 +98,18 @@ module _ {b : List ℕ} (S : Sorted b) where
           | no w ↦ absurd (omega (arith, below-member (recordAt b i) k d m (before-place k d m i h (omega arith)) (a .0) (a .1)))
         ]
 
-    found-place : recordBy b k d m < recordsIn b → recordBy b k d m ≡ placeOf b k d m
-    found-place l = only-place (recordBy b k d m) l (record-is b k d m .here (omega arith))
+    found-place : recordPlace b k d m < recordsIn b → recordPlace b k d m ≡ placeOf b k d m
+    found-place l = only-place (recordPlace b k d m) l (record-is b k d m .here (omega arith))
 
-    pub only-record : (i : ℕ) → i < recordsIn b → isAt (recordAt b i) k d m ≡ true → i ≡ recordBy b k d m
-    unfolding recordBy
+    pub only-record : (i : ℕ) → i < recordsIn b → isAt (recordAt b i) k d m ≡ true → i ≡ recordPlace b k d m
+    unfolding recordPlace
     only-record i h e =
         let l = first-low (λ j. isAt (recordAt b j) k d m) 0 (recordsIn b) i (omega arith) e in
         only-place i h e ∙ sym (found-place (omega arith))
 
     -- no record has the address where it is not that of the record at its place
-    pub no-record : (placeOf b k d m < recordsIn b → isAt (recordAt b (placeOf b k d m)) k d m ≡ false) → recordsIn b ≡ recordBy b k d m
-    no-record n = elim (decLe (recordsIn b) (recordBy b k d m)) [
+    pub no-record : (placeOf b k d m < recordsIn b → isAt (recordAt b (placeOf b k d m)) k d m ≡ false) → recordsIn b ≡ recordPlace b k d m
+    no-record n = elim (decLe (recordsIn b) (recordPlace b k d m)) [
       | yes w ↦ omega (arith, record-is b k d m .upto)
       | no w ↦
           let e = found-place (omega arith) in

@@ -1,70 +1,61 @@
--- The turns of the loop over a board's records: what the checks from the record i on give, by what they give from the next on.
-use mathlib.Core.Path.{_≡_, sym, ap, _∙_}
-use mathlib.Core.Bool.{Bool, true, false}
-use mathlib.Core.List.{List}
-use Prim.Native.Nat.{ℕ, suc, _+_, _-_, _<_, _≤_}
+-- The turns of the loop over a board's records: what the checks from the record i on give, by those of the record i and those from the next on.
+use mathlib.Core.Path.{_≡_, refl, sym, ap, _∙_}
+use mathlib.Core.Bool.{true}
+use mathlib.Core.List.{List, _++_}
+use Prim.Native.Nat.{ℕ, zero, suc, _+_, _-_, _<_, _≤_}
 use native.Mathlib.Omega.{arith}
-use borrow.Author.Tests.{eq-eqb, ne-eqb}
-use lib.Dec.{eqb}
 use Rattle.words.specs.Choice.{pick}
 use Rattle.words.specs.Checks.{refusal}
 use Rattle.words.specs.Bytes.{recordAt}
 use Rattle.words.specs.declared.Record.{Record}
-use Rattle.words.proofs.Tests.{pick-true, pick-false}
+use Rattle.words.proofs.Stages.{stage-number, stage-met, rest-number}
+use Rattle.words.proofs.Tests.{pick-same}
 use Rattle.sharing.specs.declared.Setting.{Setting}
 use Rattle.records.specs.Layout.{isOfRound}
-use Rattle.board.specs.Board.{isShaped, isAbove, inOrder, recordChecks}
+use Rattle.board.specs.Board.{isShaped, isAbove, inOrder, oneRecordChecks, recordChecks}
+use Rattle.board.specs.Loops.{noRecord, nextRecordChecks}
+use Rattle.board.proofs.Order.{shaped-above, order-next}
 
--- ---- counting up to n
-one-less : (n i : ℕ) → i < n → n - i ≡ suc (n - (i + 1))
-one-less n i h = omega arith
+-- the record before the record i
+abbrev pub recordBefore : List ℕ → ℕ → Record
+recordBefore b zero = noRecord
+recordBefore b (suc i) = recordAt b i
 
-none-left : (n i : ℕ) → n ≤ i → n - i ≡ 0
-none-left n i h = omega arith
+pub record-next : (b : List ℕ) (i : ℕ) {r : Record} → r ≡ recordAt b i → r ≡ recordBefore b (i + 1)
+record-next b i e = let next : suc i ≡ i + 1 = omega arith in e ∙ ap (recordBefore b) next
 
-one-more : (i : ℕ) → suc i ≡ i + 1
-one-more i = omega arith
+-- a record of the table is in order exactly if it is above the one before
+before-decides : (n : ℕ) (b : List ℕ) (i : ℕ) → isShaped n (recordAt b i) ≡ true → isAbove (recordBefore b i) (recordAt b i) ≡ inOrder b i
+before-decides n b zero e = shaped-above n (recordAt b 0) e
+before-decides n b (suc i) e = sym (order-next b i)
 
--- ---- form and order
--- the tests of the record r that was read at i, with that of the one before
-module _ (b : List ℕ) (i : ℕ) {r : Record} (e : r ≡ recordAt b i) where
-  pub test-found : (test : Record → Bool) {s t : Bool} → s ≡ test r → s ≡ t → test (recordAt b i) ≡ t
-  test-found test f g = ap test (sym e) ∙ sym f ∙ g
-
-  pub order-found : {q : Record} {s t : Bool} → 0 < i → q ≡ recordAt b (i - 1) → s ≡ isAbove q r → s ≡ t → inOrder b i ≡ t
-  order-found h d f g = pick-false (eqb i 0) true _ (ne-eqb i 0 (λ z. omega arith)) ∙ (λ j. isAbove (sym d j) (sym e j)) ∙ sym f ∙ g
-
-pub order-first : (b : List ℕ) (i : ℕ) → i ≤ 0 → inOrder b i ≡ true
-order-first b i h = pick-true (eqb i 0) true _ (eq-eqb i 0 (omega arith))
-
-module _ (S : Setting) (b : List ℕ) (m i : ℕ) where
-  -- what the records from j on are refused by
+module _ (S : Setting) (b : List ℕ) (m : ℕ) where
+  -- what the records from i on are refused by, m in all
   abbrev pub refusalFrom : ℕ → ℕ
-  refusalFrom j = refusal (recordChecks S b j (m - j))
+  refusalFrom i = refusal (recordChecks S b i (m - i))
 
-  abbrev shape : Bool
-  shape = isShaped (S .n) (recordAt b i)
+  module _ (i : ℕ) where
+    turn : i < m → refusalFrom i ≡ refusal (oneRecordChecks S b i ++ recordChecks S b (suc i) (m - (i + 1)))
+    turn h = let e : m - i ≡ suc (m - (i + 1)) = omega arith in ap (λ (k : ℕ). refusal (recordChecks S b i k)) e
 
-  abbrev ours : Bool
-  ours = isOfRound (S .round) (recordAt b i)
+    -- the record i by the number that its function answers, from the records that were read
+    module _ (h : i < m) {k : ℕ} {before r : Record} (d : before ≡ recordBefore b i) (f : r ≡ recordAt b i) (e : k ≡ refusal (nextRecordChecks S before r)) where
+      found : k ≡ refusal (oneRecordChecks S b i)
+      found =
+          e
+          ∙ (λ j. refusal (nextRecordChecks S (d j) (f j)))
+          ∙ pick-same (isShaped (S .n) (recordAt b i)) _ _ 4
+          (λ s. ap (λ x. pick (isOfRound (S .round) (recordAt b i)) (pick x 0 5) 17) (before-decides (S .n) b i s))
 
-  record-turn : i < m → refusalFrom i ≡ pick shape (pick ours (pick (inOrder b i) (refusalFrom (i + 1)) 5) 17) 4
-  record-turn h =
-      ap (λ (k : ℕ). refusal (recordChecks S b i k)) (one-less m i h)
-      ∙ ap (λ (j : ℕ). pick shape (pick ours (pick (inOrder b i) (refusal (recordChecks S b j (m - (i + 1)))) 5) 17) 4) (one-more i)
+      pub record-refused : (k ≡ 0 → ⊥) → refusalFrom i ≡ k
+      record-refused n = turn h ∙ sym (stage-number (oneRecordChecks S b i) found (recordChecks S b (suc i) (m - (i + 1))) n)
 
-  pub unshaped : i < m → isShaped (S .n) (recordAt b i) ≡ false → refusalFrom i ≡ 4
-  unshaped h e = record-turn h ∙ pick-false shape _ 4 e
+      pub record-passed : k ≡ 0 → refusalFrom i ≡ refusalFrom (i + 1)
+      record-passed z =
+          let next : suc i ≡ i + 1 = omega arith in
+          turn h
+          ∙ sym (rest-number (oneRecordChecks S b i) (recordChecks S b (suc i) (m - (i + 1))) (stage-met (oneRecordChecks S b i) found refl z))
+          ∙ ap (λ (j : ℕ). refusal (recordChecks S b j (m - (i + 1)))) next
 
-  module _ (h : i < m) (e : isShaped (S .n) (recordAt b i) ≡ true) where
-    pub foreign : isOfRound (S .round) (recordAt b i) ≡ false → refusalFrom i ≡ 17
-    foreign f = record-turn h ∙ pick-true shape _ 4 e ∙ pick-false ours _ 17 f
-
-    pub unordered : isOfRound (S .round) (recordAt b i) ≡ true → inOrder b i ≡ false → refusalFrom i ≡ 5
-    unordered f g = record-turn h ∙ pick-true shape _ 4 e ∙ pick-true ours _ 17 f ∙ pick-false (inOrder b i) _ 5 g
-
-    pub record-passed : isOfRound (S .round) (recordAt b i) ≡ true → inOrder b i ≡ true → refusalFrom i ≡ refusalFrom (i + 1)
-    record-passed f g = record-turn h ∙ pick-true shape _ 4 e ∙ pick-true ours _ 17 f ∙ pick-true (inOrder b i) _ 5 g
-
-  pub records-passed : m ≤ i → refusalFrom i ≡ 0
-  records-passed h = ap (λ (k : ℕ). refusal (recordChecks S b i k)) (none-left m i h)
+    pub records-passed : m ≤ i → refusalFrom i ≡ 0
+    records-passed h = let e : m - i ≡ 0 = omega arith in ap (λ (k : ℕ). refusal (recordChecks S b i k)) e

@@ -6,6 +6,7 @@ use lib.ListN.{length, take, drop}
 use lib.Dec.{leb, ltb, eqb}
 use Rattle.words.specs.Choice.{pick}
 use Rattle.words.specs.Lists.{map, all}
+use Rattle.words.specs.Numbers.{badLength, badForm, outOfOrder, noMember, incomplete, otherRound}
 use Rattle.words.specs.Checks.{Check, _unless_, Outcome}
 use Rattle.words.specs.Bytes.{recordsIn, recordAt}
 use Rattle.words.specs.declared.Record.{Record}
@@ -42,9 +43,9 @@ inOrder b i = pick (eqb i 0) true (isAbove (recordAt b (i - 1)) (recordAt b i))
 -- the record i: 4 a shape that is none of the table's, 17 another round, and then 5
 abbrev pub oneRecordChecks : Setting → List ℕ → ℕ → List Check
 oneRecordChecks S b i =
-    4 unless isShaped (S .n) (recordAt b i)
-    ∷ 17 unless isOfRound (S .round) (recordAt b i)
-    ∷ 5 unless inOrder b i
+    badForm unless isShaped (S .n) (recordAt b i)
+    ∷ otherRound unless isOfRound (S .round) (recordAt b i)
+    ∷ outOfOrder unless inOrder b i
     ∷ []
 
 -- record by record, for m records from the record i on
@@ -54,7 +55,7 @@ recordChecks S b i (suc m) = oneRecordChecks S b i ++ recordChecks S b (suc i) m
 
 -- whole records, at most 2,048
 abbrev pub lengthChecks : List ℕ → List Check
-lengthChecks b = 3 unless (eqb (length b % 32) 0 && leb (recordsIn b) 2048) ∷ []
+lengthChecks b = badLength unless (eqb (length b % 32) 0 && leb (recordsIn b) 2048) ∷ []
 
 -- and each in form, of the round, and above the one before
 unfoldable pub formChecks : Setting → List ℕ → List Check
@@ -70,13 +71,13 @@ unfoldable pub isAt : Record → ℕ → ℕ → ℕ → Bool
 isAt r k d m = eqb (r .w0) k && (eqb (dealerOf r) d && eqb (memberOf r) m)
 
 -- where the record with this address stands, the number of records where there is none
-unfoldable pub recordBy : List ℕ → ℕ → ℕ → ℕ → ℕ
-recordBy b k d m = first (λ i. isAt (recordAt b i) k d m) 0 (recordsIn b)
+unfoldable pub recordPlace : List ℕ → ℕ → ℕ → ℕ → ℕ
+recordPlace b k d m = first (λ i. isAt (recordAt b i) k d m) 0 (recordsIn b)
 
 -- ---- keys
 -- where the key record of member m stands, the number of records where there is none
 abbrev pub keyPlace : List ℕ → ℕ → ℕ
-keyPlace b m = recordBy b keyKind 0 m
+keyPlace b m = recordPlace b keyKind 0 m
 
 -- member m has one
 abbrev pub hasKey : List ℕ → ℕ → Bool
@@ -90,7 +91,7 @@ keysIn n b = map (keyIn b) (members n)
 
 -- 12 a key missing, then 6 a bad key and 22 two equal ones
 unfoldable pub boardKeyChecks : Setting → List ℕ → List Check
-boardKeyChecks S b = 12 unless all (hasKey b) (members (S .n)) ∷ keyChecks (S .group) (keysIn (S .n) b)
+boardKeyChecks S b = incomplete unless all (hasKey b) (members (S .n)) ∷ keyChecks (S .group) (keysIn (S .n) b)
 
 -- ---- what is refused before verdicts: 3; record by record 4, 17 and 5; 12, 6 and 22
 unfoldable pub boardChecks : Setting → List ℕ → List Check
@@ -113,7 +114,7 @@ linesOf b d = take (32 * linesEnd b d - 32 * linesStart b d) (drop (32 * linesSt
 
 -- the checks of both operations on a dealer's lines
 unfoldable pub linesChecks : Setting → ℕ → List ℕ → List Check
-linesChecks S d b = 8 unless isMember (S .n) d ∷ formChecks S b
+linesChecks S d b = noMember unless isMember (S .n) d ∷ formChecks S b
 
 -- whether his lines can be told
 unfoldable pub linesOutcome : List ℕ → Round → ℕ → List ℕ → Outcome (Unit {0})
@@ -133,4 +134,4 @@ behind k p = (p .0, k + p .1)
 
 -- ---- a dealer's opening: where its record stands, the number of records where there is none
 abbrev pub openingPlace : List ℕ → ℕ → ℕ
-openingPlace b d = recordBy b openingKind d 0
+openingPlace b d = recordPlace b openingKind d 0

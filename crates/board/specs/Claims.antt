@@ -9,7 +9,7 @@ use Rattle.words.specs.Checks.{Met, FirstUnmet}
 use Rattle.words.specs.Bytes.{recordsIn, recordAt}
 use Rattle.sharing.specs.Setting.{ProperSetting, members}
 use Rattle.sharing.specs.declared.Setting.{Setting}
-use Rattle.records.specs.Layout.{keyKind, lineKind, dealerOf, memberOf, roundOf, recordOf}
+use Rattle.records.specs.Layout.{keyKind, lineKind, dealerOf, memberOf, roundOf, memberRecord}
 use Rattle.records.specs.Keys.{isKey}
 use Rattle.records.specs.Claims.{KeyTwice}
 use Rattle.board.specs.Board.{isShaped, recordChecks, lengthChecks, formChecks, boardChecks, keyPlace, hasKey, keyIn, keysIn, linesStart, linesEnd, lineCount, linesOf}
@@ -42,7 +42,7 @@ pub record ExactLines (n : ℕ) (b : List ℕ) (d : ℕ) : Type 0 where
   pub all-lines : (i : ℕ) → i < recordsIn b → recordAt b i .w0 ≡ lineKind → dealerOf (recordAt b i) ≡ d → (linesStart b d ≤ i) × (i < linesEnd b d)
   pub size : length (linesOf b d) ≡ 32 * lineCount b d
   pub in-place : (k : ℕ) → k < lineCount b d → recordAt (linesOf b d) k ≡ recordAt b (linesStart b d + k)
-  pub by-member : lineCount b d ≡ n → (i : ℕ) → 1 ≤ i → i ≤ n → memberOf (recordOf (linesOf b d) i) ≡ i
+  pub by-member : lineCount b d ≡ n → (i : ℕ) → 1 ≤ i → i ≤ n → memberOf (memberRecord (linesOf b d) i) ≡ i
 
 -- on every board of which the form and order of records is not refused
 abbrev pub LinesExact : Type 0

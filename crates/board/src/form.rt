@@ -3,8 +3,12 @@ ghost use mathlib.Core.Path.{_≡_};
 ghost use Rattle.words.specs.Checks.{refusal};
 ghost use Rattle.words.specs.Bytes.{recordsIn};
 ghost use Rattle.board.specs.Board.{isShaped, isBelow, recordChecks, formChecks};
-use crate::search::records;
+ghost use Rattle.board.specs.Loops.{noRecord, nextRecordChecks};
+use crate::search::record_count;
 use records::ADDED;
+use records::KEY;
+use records::LINE;
+use records::OPENING;
 use records::SHARE;
 use records::is_key_record;
 use records::is_line_record;
@@ -15,27 +19,23 @@ use sharing::Setting;
 use sharing::is_member;
 use words::Record;
 use words::record_at;
+use words::refusal;
 
-// Whether r is a record of the table, for n members; its round is tested apart.
+// Whether r is a record of the table, for n members; its round is tested apart. By `&` each kind has one way through its tests.
 fn is_shaped(n: u32, r: Record) -> bool
     ensures { λ a. ⌜ a ≡ isShaped n r ⌝ }
 {
-    if is_key_record(r) {
-        return is_member(n, r.w2);
+    let kind = r.w0;
+    let dealer = is_member(n, r.w1);
+    let member = is_member(n, r.w2);
+    match kind {
+        KEY => is_key_record(r) & member,
+        LINE => is_line_record(r) & dealer & member,
+        OPENING => is_opening_record(r) & dealer,
+        SHARE => is_share_record(SHARE, r) & dealer & member,
+        ADDED => is_share_record(ADDED, r) & (r.w1 == 0) & member,
+        _ => false,
     }
-    if is_line_record(r) {
-        return is_member(n, r.w1) && is_member(n, r.w2);
-    }
-    if is_opening_record(r) {
-        return is_member(n, r.w1);
-    }
-    if is_share_record(SHARE, r) {
-        return is_member(n, r.w1) && is_member(n, r.w2);
-    }
-    if is_share_record(ADDED, r) {
-        return r.w1 == 0 && is_member(n, r.w2);
-    }
-    false
 }
 
 // Whether r is below the address of kind k, dealer d and member m.
@@ -51,26 +51,53 @@ pub(crate) fn is_below(r: Record, k: u32, d: u32, m: u32) -> bool
     r.w2 < m
 }
 
-// Record by record: 4 a record that is none of the table; 17 a record of another round; 5 a record that is not above the one before. 0
-// where there is none.
+// What stands before the first record: of kind 0, it is below every record of the table.
+fn no_record() -> Record
+    ensures { λ r. ⌜ r ≡ noRecord ⌝ }
+{
+    Record {
+        w0: 0,
+        w1: 0,
+        w2: 0,
+        w3: 0,
+        w4: 0,
+        w5: 0,
+        w6: 0,
+        w7: 0,
+    }
+}
+
+// What the record r is refused by behind the record before: 4 it is none of the table; 17 it is of another round; 5 it is not above the one
+// before. 0 where it is not.
+fn record_refusal(s: Setting, before: Record, r: Record) -> u32
+    ensures { λ k. ⌜ k ≡ refusal (nextRecordChecks s before r) ⌝ }
+{
+    if !is_shaped(s.n, r) {
+        return refusal::BAD_FORM;
+    }
+    if !is_of_round(s.round, r) {
+        return refusal::OTHER_ROUND;
+    }
+    if !is_below(before, r.w0, r.w1, r.w2) {
+        return refusal::OUT_OF_ORDER;
+    }
+    0
+}
+
+// What the records are refused by, one after the other: 4, 17 and 5. 0 where they are not.
 fn records_refusal(s: Setting, b: &[u8]) -> u32
     ensures { λ r. ⌜ r ≡ refusal (recordChecks s (now (b .entry)) 0 (recordsIn (now (b .entry)))) ⌝ }
 {
-    let all = records(b);
+    let all = record_count(b);
+    let mut before = no_record();
     let mut i = 0;
     while i < all {
         let r = record_at(b, i);
-        if !is_shaped(s.n, r) {
-            return 4;
+        let refused = record_refusal(s, before, r);
+        if refused != 0 {
+            return refused;
         }
-        if !is_of_round(s.round, r) {
-            return 17;
-        }
-        if i > 0 {
-            if !is_below(record_at(b, i - 1), r.w0, r.w1, r.w2) {
-                return 5;
-            }
-        }
+        before = r;
         i += 1;
     }
     0
@@ -81,11 +108,8 @@ fn records_refusal(s: Setting, b: &[u8]) -> u32
 pub(crate) fn form_refusal(s: Setting, b: &[u8]) -> u32
     ensures { λ r. ⌜ r ≡ refusal (formChecks s (now (b .entry))) ⌝ }
 {
-    if b.len() % 32 != 0 {
-        return 3;
-    }
-    if records(b) > 2048 {
-        return 3;
+    if b.len() % 32 != 0 || record_count(b) > 2048 {
+        return refusal::BAD_LENGTH;
     }
     records_refusal(s, b)
 }

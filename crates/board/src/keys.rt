@@ -6,28 +6,38 @@ ghost use Rattle.words.specs.Lists.{all, filled};
 ghost use Rattle.words.specs.Checks.{refusal};
 ghost use Rattle.sharing.specs.Setting.{ProperSetting, members};
 ghost use Rattle.board.specs.Board.{hasKey, keysIn, boardKeyChecks, boardChecks};
+ghost use Rattle.board.specs.Loops.{foundKeys};
 ghost use Rattle.board.specs.Sorted.{Sorted};
+use crate::FoundKeys;
 use crate::form::form_refusal;
 use crate::search::find_key;
-use crate::search::records;
+use crate::search::record_count;
 use records::keys_refusal;
 use sharing::Setting;
 use words::record_at;
+use words::refusal;
 
-// Whether each member has a key record.
-// Internal: callers ensure that the records ascend.
-fn has_keys(b: &[u8], n: u32) -> bool
-    requires { ⌜ Sorted (now b) ⌝ }
-    ensures { λ r. ⌜ r ≡ all (hasKey (now (b .entry))) (members n) ⌝ }
+// The members' keys as they are found, one search for each; zeros where one is missing.
+// Internal: callers ensure that there are at most 31 members and that the records ascend.
+fn found_keys(b: &[u8], n: u32) -> FoundKeys
+    requires { ⌜ (n ≤ 31) × (Sorted (now b)) ⌝ }
+    ensures { λ r. ⌜ r ≡ foundKeys n (now (b .entry)) ⌝ }
 {
+    let mut ys = [0u32; 31];
     let mut i: u32 = 0;
     while i < n {
-        if find_key(b, i + 1) >= records(b) {
-            return false;
+        let place = find_key(b, i + 1);
+        if place >= record_count(b) {
+            return FoundKeys {
+                complete: false,
+                ys: [0; 31],
+            };
         }
+        let at = i as usize;
+        ys[at] = record_at(b, place).w3;
         i += 1;
     }
-    true
+    FoundKeys { complete: true, ys }
 }
 
 // The members' keys, and 0 behind them.
@@ -36,14 +46,8 @@ pub fn board_keys(b: &[u8], n: u32) -> [u32; 31]
     requires { ⌜ (n ≤ 31) × (all (hasKey (now b)) (members n) ≡ true) × (Sorted (now b)) ⌝ }
     ensures { λ r. ⌜ r ≡ filled 31 (keysIn n (now (b .entry))) ⌝ }
 {
-    let mut ys = [0u32; 31];
-    let mut i: u32 = 0;
-    while i < n {
-        let at = i as usize;
-        ys[at] = record_at(b, find_key(b, i + 1)).w3;
-        i += 1;
-    }
-    ys
+    let found = found_keys(b, n);
+    found.ys
 }
 
 // What the keys are refused by: 12 a key missing; 6 a bad key; 22 two equal keys. 0 where they are not.
@@ -52,11 +56,13 @@ fn board_keys_refusal(s: Setting, b: &[u8]) -> u32
     requires { ⌜ (ProperSetting s) × (Sorted (now b)) ⌝ }
     ensures { λ r. ⌜ r ≡ refusal (boardKeyChecks s (now (b .entry))) ⌝ }
 {
-    if !has_keys(b, s.n) {
-        return 12;
+    let found = found_keys(b, s.n);
+    if !found.complete {
+        return refusal::INCOMPLETE;
     }
     let n = s.n as usize;
-    keys_refusal(s.group, &board_keys(b, s.n)[..n])
+    let ys = found.ys;
+    keys_refusal(s.group, &ys[..n])
 }
 
 // What a board is refused by before verdicts: 3, 4, 17 and 5 its form; 12, 6 and 22 its keys. 0 where it is not.

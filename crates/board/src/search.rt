@@ -1,7 +1,7 @@
 // Searches over the records of a board that ascend: places are found by bisection.
 ghost use mathlib.Core.Path.{_≡_};
 ghost use Rattle.words.specs.Bytes.{recordsIn};
-ghost use Rattle.board.specs.Board.{placeOf, isAt, recordBy, keyPlace, openingPlace};
+ghost use Rattle.board.specs.Board.{placeOf, isAt, recordPlace, keyPlace, openingPlace};
 ghost use Rattle.board.specs.Sorted.{Sorted};
 use crate::form::is_below;
 use records::KEY;
@@ -10,7 +10,7 @@ use words::Record;
 use words::record_at;
 
 // The number of records.
-pub fn records(b: &[u8]) -> usize
+pub fn record_count(b: &[u8]) -> usize
     ensures { λ r. ⌜ r ≡ recordsIn (now (b .entry)) ⌝ }
 {
     b.len() / 32
@@ -23,7 +23,7 @@ pub fn place_of(b: &[u8], k: u32, d: u32, m: u32) -> usize
     ensures { λ r. ⌜ r ≡ placeOf (now (b .entry)) k d m ⌝ }
 {
     let mut low = 0;
-    let mut high = records(b);
+    let mut high = record_count(b);
     while low < high {
         let mid = (low + high) / 2;
         if is_below(record_at(b, mid), k, d, m) {
@@ -50,11 +50,11 @@ fn is_at(r: Record, k: u32, d: u32, m: u32) -> bool
 
 // Where the record with the address of kind k, dealer d and member m stands, the number of records where there is none.
 // Internal: callers ensure that the records ascend.
-fn record_by(b: &[u8], k: u32, d: u32, m: u32) -> usize
+fn record_place(b: &[u8], k: u32, d: u32, m: u32) -> usize
     requires { ⌜ Sorted (now b) ⌝ }
-    ensures { λ r. ⌜ r ≡ recordBy (now (b .entry)) k d m ⌝ }
+    ensures { λ r. ⌜ r ≡ recordPlace (now (b .entry)) k d m ⌝ }
 {
-    let all = records(b);
+    let all = record_count(b);
     let at = place_of(b, k, d, m);
     if at >= all {
         return all;
@@ -71,7 +71,7 @@ pub fn find_key(b: &[u8], m: u32) -> usize
     requires { ⌜ Sorted (now b) ⌝ }
     ensures { λ r. ⌜ r ≡ keyPlace (now (b .entry)) m ⌝ }
 {
-    record_by(b, KEY, 0, m)
+    record_place(b, KEY, 0, m)
 }
 
 // Where the opening of dealer d stands, the number of records where there is none.
@@ -80,5 +80,5 @@ pub fn find_opening(b: &[u8], d: u32) -> usize
     requires { ⌜ Sorted (now b) ⌝ }
     ensures { λ r. ⌜ r ≡ openingPlace (now (b .entry)) d ⌝ }
 {
-    record_by(b, OPENING, d, 0)
+    record_place(b, OPENING, d, 0)
 }

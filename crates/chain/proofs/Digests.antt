@@ -20,7 +20,7 @@ use Rattle.sha256.specs.Hash.{hash}
 use Rattle.group.specs.Table.{groupsOf, tableChecks}
 use Rattle.chain.specs.Link.{linkMessage}
 use Rattle.chain.specs.Chain.{linksIn, digestAt, digestAfter}
-use Rattle.chain.specs.Claims.{IsChain, roundAt, valueAt, messageAt, SameDraws, Collision, hashAlike, lastApart, CollisionAt, KeptDigest, LastDigests, OneRound}
+use Rattle.chain.specs.Claims.{IsChain, roundAt, drawnAt, messageAt, SameDraws, Collision, hashAlike, lastApart, CollisionAt, KeptDigest, LastDigests, OneRound}
 use Rattle.chain.proofs.Accepted.{each-more, accepted-exactly, value-word, digest-words}
 
 -- ---- what two equal messages tell
@@ -36,7 +36,7 @@ module _ (b : List ℕ) (i : ℕ) (c : List ℕ) (j : ℕ) (e : messageAt b i �
   abbrev d' : Record
   d' = digestAfter c j
 
-  figures-same : wordsBytes (valueAt b i ∷ roundAt b i ∷ []) ≡ wordsBytes (valueAt c j ∷ roundAt c j ∷ [])
+  figures-same : wordsBytes (drawnAt b i ∷ roundAt b i ∷ []) ≡ wordsBytes (drawnAt c j ∷ roundAt c j ∷ [])
   unfolding linkMessage
   figures-same = sym (drop-at (recordBytes d) _ 32 (record-length d)) ∙ ap (drop 32) e ∙ drop-at (recordBytes d') _ 32 (record-length d')
 
@@ -46,16 +46,16 @@ module _ (b : List ℕ) (i : ℕ) (c : List ℕ) (j : ℕ) (e : messageAt b i �
       let front = sym (take-at (recordBytes d) _ 32 (record-length d)) ∙ ap (take 32) e ∙ take-at (recordBytes d') _ 32 (record-length d') in
       sym (read-back d h) ∙ ap recordIn front ∙ read-back d' l
 
-  value-same : valueAt b i < 2 ^ 32 → valueAt c j < 2 ^ 32 → valueAt b i ≡ valueAt c j
+  value-same : drawnAt b i < 2 ^ 32 → drawnAt c j < 2 ^ 32 → drawnAt b i ≡ drawnAt c j
   unfolding wordsBytes
-  value-same h l = sym (word-back (valueAt b i) _ h) ∙ ap (λ (bs : List ℕ). wordAt bs 0) figures-same ∙ word-back (valueAt c j) _ l
+  value-same h l = sym (word-back (drawnAt b i) _ h) ∙ ap (λ (bs : List ℕ). wordAt bs 0) figures-same ∙ word-back (drawnAt c j) _ l
 
   round-same : roundAt b i < 2 ^ 32 → roundAt c j < 2 ^ 32 → roundAt b i ≡ roundAt c j
-  round-same h l = sym (second-word (valueAt b i) (roundAt b i) h) ∙ ap (λ (bs : List ℕ). wordAt bs 4) figures-same ∙ second-word (valueAt c j) (roundAt c j) l
+  round-same h l = sym (second-word (drawnAt b i) (roundAt b i) h) ∙ ap (λ (bs : List ℕ). wordAt bs 4) figures-same ∙ second-word (drawnAt c j) (roundAt c j) l
 
 -- ---- two chains
 abbrev SameDraw : List ℕ → List ℕ → ℕ → Type 0
-SameDraw b c i = (roundAt b i ≡ roundAt c i) × (valueAt b i ≡ valueAt c i)
+SameDraw b c i = (roundAt b i ≡ roundAt c i) × (drawnAt b i ≡ drawnAt c i)
 
 module _ (T T' b c : List ℕ) (t : Met (tableChecks T)) (t' : Met (tableChecks T')) (B : IsChain (groupsOf T) b) (C : IsChain (groupsOf T') c) where
   -- links that hash the same message hash the same figures
@@ -64,9 +64,9 @@ module _ (T T' b c : List ℕ) (t : Met (tableChecks T)) (t' : Met (tableChecks 
       let r = B .links i h in
       let s = C .links i l in
       let before = before-same b i c i e (digest-words (groupsOf T) b B i (omega arith)) (digest-words (groupsOf T') c C i (omega arith)) in
-      let v = value-same b i c i e (value-word T t _ (valueAt b i) (r .drawn)) (value-word T' t' _ (valueAt c i) (s .drawn)) in
+      let v = value-same b i c i e (value-word T t _ (drawnAt b i) (r .drawn)) (value-word T' t' _ (drawnAt c i) (s .drawn)) in
       true-and _ _ (agrees-exactly (digestAfter b i) (digestAfter c i) .1 before)
-      (true-equal (valueAt b i) (valueAt c i) (roundAt b i) (roundAt c i) v (r .next ∙ sym (s .next)))
+      (true-equal (drawnAt b i) (drawnAt c i) (roundAt b i) (roundAt c i) v (r .next ∙ sym (s .next)))
 
   -- one digest of two messages
   collision : (i j : ℕ) → i < linksIn b → j < linksIn c → digestAt b i ≡ digestAt c j → (messageAt b i ≡ messageAt c j → ⊥) → Collision b i c j
@@ -87,7 +87,7 @@ module _ (T T' b c : List ℕ) (t : Met (tableChecks T)) (t' : Met (tableChecks 
     -- it hashes the same: then those before it decide
     agreed : hashAlike b c m ≡ true → Claimed m → Claimed (suc m)
     agreed t s =
-        let draw = equal-true (valueAt b m) (valueAt c m) (roundAt b m) (roundAt c m) (and-true (agrees (digestAfter b m) (digestAfter c m)) _ t .1) in
+        let draw = equal-true (drawnAt b m) (drawnAt c m) (roundAt b m) (roundAt c m) (and-true (agrees (digestAfter b m) (digestAfter c m)) _ t .1) in
         ⊎-elim
         (λ f. inl (each-more (SameDraw b c) m f (draw .1, draw .0)))
         (λ k. inr (subst (CollisionAt b c (suc m)) (sym (pick-true _ _ m t)) (omega (arith, k .0), k .1)))

@@ -19,7 +19,7 @@ use Rattle.sha256.proofs.Values.{hash-words}
 use Rattle.group.specs.Table.{groupsOf, tableChecks}
 use Rattle.chain.specs.Link.{linkLayout, linkMessage, linkDigest}
 use Rattle.chain.specs.Chain.{linksIn, figuresAt, digestAt, digestAfter, chainChecks, chainOutcome, nextLink, nextChecks, extendChecks, extendOutcome, lentLink}
-use Rattle.chain.specs.Claims.{Accepted, DrawValue, IsChain, ExtendLent, GroupNotHashed}
+use Rattle.chain.specs.Claims.{AcceptedChain, DrawValue, IsChain, ExtendLent, GroupNotHashed}
 use Rattle.chain.proofs.Accepted.{draw-value, each-more, LinkAt, accepted-exactly, number-word, value-word, SameLinks, same-after, link-same, same-link, start-links}
 
 -- ---- what the checks settle
@@ -116,7 +116,7 @@ module _ (T b : List ℕ) (number v : ℕ) (x : Extendable T b number v) where
       link-same (groupsOf T) (suc n) (same-after b whole n first-links n (omega arith)) (sym figures-next) (sym digest-next)
       (record { spare = refl; drawn = x .drawn; next = omega arith; hashed = refl })
 
-  extended : Accepted T whole
+  extended : AcceptedChain T whole
   extended =
       let count : linksIn whole ≡ n + 1 = omega (arith, next-size) in
       accepted-exactly T whole .1 (
@@ -133,7 +133,7 @@ pub extend-lent : ExtendLent
 extend-lent T b number v out =
     record {
       written = lent-next T b number v out;
-      accepted = λ e. subst (λ (l : List ℕ). Accepted T (b ++ l)) (sym (lent-next T b number v out e)) (extended T b number v (extendable T b number v out e));
+      accepted = λ e. subst (λ (l : List ℕ). AcceptedChain T (b ++ l)) (sym (lent-next T b number v out e)) (extended T b number v (extendable T b number v out e));
       kept = kept T b number v out;
     }
 

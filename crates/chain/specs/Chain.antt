@@ -4,6 +4,7 @@ use mathlib.Core.List.{List, [], _∷_, _++_}
 use Prim.Native.Nat.{ℕ, zero, suc, _+_, _*_, _/_, _%_}
 use lib.Dec.{leb, ltb, eqb}
 use lib.ListN.{length}
+use Rattle.words.specs.Numbers.{badLength}
 use Rattle.words.specs.Checks.{Check, _unless_, Outcome, outcome, ifMet}
 use Rattle.words.specs.Bytes.{recordBytes, recordAt}
 use Rattle.words.specs.declared.Record.{Record}
@@ -34,7 +35,7 @@ linksChecks Gs b i (suc m) = linkChecks Gs (digestAfter b i) (suc i) (figuresAt 
 
 -- whole links, at most 1,024, and each of them, among the groups of an accepted table
 unfoldable pub linkedChecks : List Group → List ℕ → List Check
-linkedChecks Gs b = 3 unless (eqb (length b % 64) 0 && leb (linksIn b) 1024) ∷ linksChecks Gs b 0 (linksIn b)
+linkedChecks Gs b = badLength unless (eqb (length b % 64) 0 && leb (linksIn b) 1024) ∷ linksChecks Gs b 0 (linksIn b)
 
 -- the table T comes first
 unfoldable pub chainChecks : List ℕ → List ℕ → List Check
@@ -51,7 +52,7 @@ nextLink b number v =
 
 -- what is asked beside the chain: that it is not full, room for one link, and a draw value of the group
 abbrev pub nextChecks : List Group → List ℕ → ℕ → ℕ → ℕ → List Check
-nextChecks Gs b number v room = 3 unless (ltb (linksIn b) 1024 && eqb room 64) ∷ valueChecks Gs number v
+nextChecks Gs b number v room = badLength unless (ltb (linksIn b) 1024 && eqb room 64) ∷ valueChecks Gs number v
 
 -- the table and the chain are judged first
 unfoldable pub extendChecks : List ℕ → List ℕ → ℕ → ℕ → ℕ → List Check

@@ -19,8 +19,8 @@ use Rattle.chain.specs.Chain.{linksIn, figuresAt, digestAt, digestAfter,
 
 -- ---- accepted chains
 -- by the table T
-abbrev pub Accepted : List ℕ → List ℕ → Type 0
-Accepted T b = chainOutcome T b ≡ value tt
+abbrev pub AcceptedChain : List ℕ → List ℕ → Type 0
+AcceptedChain T b = chainOutcome T b ≡ value tt
 
 -- v is an element of the group of that number, which there is
 pub record DrawValue (Gs : List Group) (number v : ℕ) : Type 0 where
@@ -42,17 +42,17 @@ pub record IsChain (Gs : List Group) (b : List ℕ) : Type 0 where
 
 -- by an accepted table these chains are accepted, and no others; by another one none is
 abbrev pub AcceptedExactly : Type 0
-AcceptedExactly = (T b : List ℕ) → Accepted T b ↔ (Met (tableChecks T) × IsChain (groupsOf T) b)
+AcceptedExactly = (T b : List ℕ) → AcceptedChain T b ↔ (Met (tableChecks T) × IsChain (groupsOf T) b)
 
 -- every start of an accepted chain is accepted
 abbrev pub StartsAccepted : Type 0
-StartsAccepted = (T b : List ℕ) → Accepted T b → (m : ℕ) → m ≤ linksIn b → Accepted T (take (64 * m) b)
+StartsAccepted = (T b : List ℕ) → AcceptedChain T b → (m : ℕ) → m ≤ linksIn b → AcceptedChain T (take (64 * m) b)
 
 -- ---- extending
 -- where it passes, the output is the next link, and the chain with it behind is accepted; where it refuses, the output is as it was
 pub record Extended (T b : List ℕ) (number v : ℕ) (out : List ℕ) : Type 0 where
   pub written : extendOutcome T b number v (length out) ≡ value tt → lentLink T b number v out ≡ nextLink b number v
-  pub accepted : extendOutcome T b number v (length out) ≡ value tt → Accepted T (b ++ lentLink T b number v out)
+  pub accepted : extendOutcome T b number v (length out) ≡ value tt → AcceptedChain T (b ++ lentLink T b number v out)
   pub kept : (k : ℕ) → extendOutcome T b number v (length out) ≡ refused k → lentLink T b number v out ≡ out
 
 abbrev pub ExtendLent : Type 0
@@ -90,16 +90,16 @@ pub record FirstLink : Type 0 where
 abbrev pub roundAt : List ℕ → ℕ → ℕ
 roundAt b i = linkRound (figuresAt b i)
 
-abbrev pub valueAt : List ℕ → ℕ → ℕ
-valueAt b i = linkValue (figuresAt b i)
+abbrev pub drawnAt : List ℕ → ℕ → ℕ
+drawnAt b i = linkValue (figuresAt b i)
 
 -- what the link i hashes
 abbrev pub messageAt : List ℕ → ℕ → List ℕ
-messageAt b i = linkMessage (digestAfter b i) (valueAt b i) (roundAt b i)
+messageAt b i = linkMessage (digestAfter b i) (drawnAt b i) (roundAt b i)
 
 -- the first m links have the same rounds and draw values; of groups nothing is said
 abbrev pub SameDraws : List ℕ → List ℕ → ℕ → Type 0
-SameDraws b c m = (i : ℕ) → i < m → (roundAt b i ≡ roundAt c i) × (valueAt b i ≡ valueAt c i)
+SameDraws b c m = (i : ℕ) → i < m → (roundAt b i ≡ roundAt c i) × (drawnAt b i ≡ drawnAt c i)
 
 -- the link i of one chain and the link j of another hash two different messages to one digest
 pub record Collision (b : List ℕ) (i : ℕ) (c : List ℕ) (j : ℕ) : Type 0 where
@@ -109,7 +109,7 @@ pub record Collision (b : List ℕ) (i : ℕ) (c : List ℕ) (j : ℕ) : Type 0 
 -- the two links i hash the same figures
 abbrev pub hashAlike : List ℕ → List ℕ → ℕ → Bool
 hashAlike b c i =
-    agrees (digestAfter b i) (digestAfter c i) && (eqb (valueAt b i) (valueAt c i) && eqb (roundAt b i) (roundAt c i))
+    agrees (digestAfter b i) (digestAfter c i) && (eqb (drawnAt b i) (drawnAt c i) && eqb (roundAt b i) (roundAt c i))
 
 -- the place of the last two, among the first m, that do not; 0 where all do
 abbrev pub lastApart : List ℕ → List ℕ → ℕ → ℕ
@@ -124,17 +124,17 @@ CollisionAt b c m i = (i < m) × Collision b i c i
 -- apart collide
 abbrev pub KeptDigest : Type 0
 KeptDigest =
-    (T T' b c : List ℕ) → Accepted T b → Accepted T' c → (m : ℕ) → m ≤ linksIn b → m ≤ linksIn c → digestAfter b m ≡ digestAfter c m
+    (T T' b c : List ℕ) → AcceptedChain T b → AcceptedChain T' c → (m : ℕ) → m ≤ linksIn b → m ≤ linksIn c → digestAfter b m ≡ digestAfter c m
     → SameDraws b c m ⊎ CollisionAt b c m (lastApart b c m)
 
 -- the same of the last digests of two accepted chains of equal length
 abbrev pub LastDigests : Type 0
 LastDigests =
-    (T T' b c : List ℕ) → Accepted T b → Accepted T' c → length b ≡ length c → digestAfter b (linksIn b) ≡ digestAfter c (linksIn c)
+    (T T' b c : List ℕ) → AcceptedChain T b → AcceptedChain T' c → length b ≡ length c → digestAfter b (linksIn b) ≡ digestAfter c (linksIn c)
     → SameDraws b c (linksIn b) ⊎ CollisionAt b c (linksIn b) (lastApart b c (linksIn b))
 
 -- links of two rounds with one digest collide: so who keeps a digest need not keep its round
 abbrev pub OneRound : Type 0
 OneRound =
-    (T T' b c : List ℕ) → Accepted T b → Accepted T' c → (i j : ℕ) → i < linksIn b → j < linksIn c → (i ≡ j → ⊥) → digestAt b i ≡ digestAt c j
+    (T T' b c : List ℕ) → AcceptedChain T b → AcceptedChain T' c → (i j : ℕ) → i < linksIn b → j < linksIn c → (i ≡ j → ⊥) → digestAt b i ≡ digestAt c j
     → Collision b i c j

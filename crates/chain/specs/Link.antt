@@ -3,6 +3,7 @@ use mathlib.Core.Bool.{Bool}
 use mathlib.Core.List.{List, [], _∷_, _++_}
 use Prim.Native.Nat.{ℕ}
 use lib.Dec.{eqb}
+use Rattle.words.specs.Numbers.{unknownGroup, badForm, noElement, wrongDigest, notNext}
 use Rattle.words.specs.Checks.{Check, _unless_}
 use Rattle.words.specs.Bytes.{wordsBytes, recordBytes, agrees}
 use Rattle.words.specs.declared.Record.{Record}
@@ -43,16 +44,16 @@ linkDigest before v round = hashValue (linkMessage before v round)
 -- ---- checks
 -- a draw value of the group of that number, among the groups of a table
 abbrev pub valueChecks : List Group → ℕ → ℕ → List Check
-valueChecks Gs number v = 1 unless isGroup Gs number ∷ 6 unless isElement (groupOf Gs number) v ∷ []
+valueChecks Gs number v = unknownGroup unless isGroup Gs number ∷ noElement unless isElement (groupOf Gs number) v ∷ []
 
 -- this round, and a digest behind this one
 abbrev pub placeChecks : Record → ℕ → Record → Record → List Check
 placeChecks before round figures digest =
-    19 unless eqb (linkRound figures) round
-    ∷ 18 unless agrees digest (linkDigest before (linkValue figures) (linkRound figures))
+    notNext unless eqb (linkRound figures) round
+    ∷ wrongDigest unless agrees digest (linkDigest before (linkValue figures) (linkRound figures))
     ∷ []
 
 -- a link of this round behind this digest
 abbrev pub linkChecks : List Group → Record → ℕ → Record → Record → List Check
 linkChecks Gs before round figures digest =
-    (4 unless isLinkRecord figures ∷ valueChecks Gs (linkGroup figures) (linkValue figures)) ++ placeChecks before round figures digest
+    (badForm unless isLinkRecord figures ∷ valueChecks Gs (linkGroup figures) (linkValue figures)) ++ placeChecks before round figures digest

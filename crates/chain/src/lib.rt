@@ -2,9 +2,8 @@
 ghost use mathlib.Core.Path.{_≡_};
 ghost use Prim.Native.Nat.{_≤_, _<_};
 ghost use lib.ListN.{length};
-ghost use Rattle.words.specs.Checks.{refusal};
+ghost use Rattle.words.specs.Checks.{refusal, checkOutcomeOf};
 ghost use Rattle.group.specs.Table.{groupsOf};
-ghost use Rattle.sharing.specs.Answer.{checkOutcomeOf};
 ghost use Rattle.chain.specs.Chain.{linksIn, digestAfter, linksChecks, linkedChecks, chainChecks, chainOutcome};
 ghost use Rattle.chain.specs.Chain.{nextLink, extendChecks, extendOutcome, lentLink};
 
@@ -17,9 +16,10 @@ use link::link_record;
 use link::link_refusal;
 use link::no_digest;
 use link::value_refusal;
-use sharing::CheckAnswer;
+use words::CheckAnswer;
 use words::Record;
 use words::record_at;
+use words::refusal;
 use words::write_record;
 
 // The number of links.
@@ -50,16 +50,13 @@ fn links_refusal(table: &[u8], b: &[u8]) -> u32
     0
 }
 
-// What a chain is refused by in a table that has been judged before: 3 not whole links, or more than 1,024; 4, 1, 6, 19 and 18 link by link.
-// 0 where it is not.
+// What a chain is refused by: 3 not whole links, or more than 1,024; 4, 1, 6, 19 and 18 link by link. 0 where it is not.
+// Internal: callers have judged the table.
 fn linked_refusal(table: &[u8], b: &[u8]) -> u32
     ensures { λ r. ⌜ r ≡ refusal (linkedChecks (groupsOf (now (table .entry))) (now (b .entry))) ⌝ }
 {
-    if b.len() % 64 != 0 {
-        return 3;
-    }
-    if links(b) > 1024 {
-        return 3;
+    if b.len() % 64 != 0 || links(b) > 1024 {
+        return refusal::BAD_LENGTH;
     }
     links_refusal(table, b)
 }
@@ -97,11 +94,8 @@ fn extend_refusal(table: &[u8], b: &[u8], number: u32, value: Element, room: usi
     if refused != 0 {
         return refused;
     }
-    if links(b) >= 1024 {
-        return 3;
-    }
-    if room != 64 {
-        return 3;
+    if links(b) >= 1024 || room != 64 {
+        return refusal::BAD_LENGTH;
     }
     value_refusal(table, number, value)
 }

@@ -12,6 +12,7 @@ use sha256::digest;
 use words::Record;
 use words::agrees;
 use words::put_word;
+use words::refusal;
 use words::write_record;
 
 // The figures of a link: the round, the draw value and the group's number.
@@ -67,21 +68,22 @@ pub(crate) fn link_digest(before: Record, value: Element, round: u32) -> Record
     d
 }
 
-// What a draw value is refused by, in a table that has been judged before: 1 no group of that number; 6 no element of it. 0 where it is not.
+// What a draw value is refused by: 1 no group of that number; 6 no element of it. 0 where it is not.
+// Internal: callers have judged the table.
 pub(crate) fn value_refusal(table: &[u8], number: u32, value: Element) -> u32
     ensures { λ r. ⌜ r ≡ refusal (valueChecks (groupsOf (now (table .entry))) number (value .0)) ⌝ }
 {
     let GroupAnswer::Value(gr) = group_in(table, number) else {
-        return 1;
+        return refusal::UNKNOWN_GROUP;
     };
     if !is_element(gr, value) {
-        return 6;
+        return refusal::NO_ELEMENT;
     }
     0
 }
 
 // What a link is refused by, as the link of this round behind this digest: 4 a spare byte; 1 and 6 the draw value, as value_refusal; 19 the
-// round; 18 the digest. 0 where it is not.
+// round; 18 the digest. 0 where it is not. Internal: callers have judged the table.
 pub(crate) fn link_refusal(
     table: &[u8],
     before: Record,
@@ -92,7 +94,7 @@ pub(crate) fn link_refusal(
     ensures { λ r. ⌜ r ≡ refusal (linkChecks (groupsOf (now (table .entry))) before round figures digest) ⌝ }
 {
     if !is_link_record(figures) {
-        return 4;
+        return refusal::BAD_FORM;
     }
     let value = Element(figures.w1);
     let refused = value_refusal(table, figures.w2, value);
@@ -100,10 +102,10 @@ pub(crate) fn link_refusal(
         return refused;
     }
     if figures.w0 != round {
-        return 19;
+        return refusal::NOT_NEXT;
     }
     if !agrees(digest, link_digest(before, value, figures.w0)) {
-        return 18;
+        return refusal::WRONG_DIGEST;
     }
     0
 }

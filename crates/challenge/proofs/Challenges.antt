@@ -2,29 +2,30 @@
 use mathlib.Core.Path.{_≡_, refl, sym, ap, _∙_}
 use mathlib.Core.Bool.{Bool, true, false}
 use mathlib.Core.List.{List, [], _∷_, _++_, append-assoc}
-use Prim.Native.Nat.{ℕ, _-_, _%_, _^_, _≤_, _<_}
+use Prim.Native.Nat.{ℕ, suc, _-_, _*_, _%_, _^_, _≤_, _<_}
 use native.Mathlib.Nat.{mod-lt}
 use native.Mathlib.Omega.{arith}
 use borrow.Author.Tests.{eqb-true, eq-eqb}
-use lib.ListN.{length, take, drop, length-append}
+use lib.ListN.{length, getD, take, drop, length-append}
 use lib.Dec.{eqb}
 use Rattle.words.specs.Choice.{pick}
 use Rattle.words.specs.Lists.{All, upFrom}
 use Rattle.words.specs.Bytes.{wordAt, wordBytes, wordsBytes, bigEndian}
 use Rattle.words.proofs.Lists.{All-each, map-length, map-all, up-length}
 use Rattle.words.proofs.Tests.{pick-true, pick-false, false-true}
-use Rattle.words.proofs.Bytes.{word-length, word-back}
+use Rattle.words.proofs.Bytes.{word-length, words-length, word-back}
 use Rattle.sha256.specs.Hash.{hash}
 use Rattle.sha256.proofs.Values.{hash-bytes}
 use Rattle.sharing.specs.Setting.{ProperSetting, members}
 use Rattle.sharing.specs.Carried.{CheckPolynomial}
 use Rattle.sharing.specs.declared.Setting.{Setting}
+use Rattle.sharing.proofs.EachMember.{each-members}
 use Rattle.challenge.specs.Exponent.{exponentOf}
 use Rattle.challenge.specs.Message.{dealingTag, coefficientTag, headBytes, roundBytes, message, bytesOver, roundlessHead, roundlessMessage, challengeOf}
 use Rattle.challenge.specs.Message.{dealingFigures, shareFigures, coefficientFigures, dealingMessage, shareMessage, coefficientMessage, checkPolynomial}
 use Rattle.challenge.specs.Claims.{ChallengeLow, ChallengeByRule, RuleEnters, RoundZero, RoundHashed}
-use Rattle.records.proofs.Members.{each-members}
-use Rattle.challenge.proofs.Buffers.{round-none, round-some}
+use Rattle.challenge.specs.Claims.{Hashed, dealing, opened, added, coefficient, tagOf, messageOf}
+use Rattle.challenge.proofs.Buffers.{members-length, round-none, round-some}
 
 pub order-positive : {S : Setting} → ProperSetting S → 0 < S .group .q
 order-positive P = omega (arith, P .proper .prime-q .above-one)
@@ -40,8 +41,8 @@ challenge-by-rule S m =
     let number : List ℕ → ℕ = λ bs. bigEndian 0 bs % S .group .q in
     record {
       size = hash-bytes m .0;
-      new = λ e. ap number (pick-true (S .whole) D (take 8 D) e);
-      old = λ e. ap number (pick-false (S .whole) D (take 8 D) e);
+      new = λ e. ap number (pick-true (S .«whole_digest») D (take 8 D) e);
+      old = λ e. ap number (pick-false (S .«whole_digest») D (take 8 D) e);
     }
 
 pub rule-enters : RuleEnters
@@ -59,7 +60,7 @@ check-polynomial S P d v Y =
       low = map-all f (λ c. c < S .group .q) ks (All-each ks (λ k. challenge-low S P (coefficientMessage S d v Y k)));
     }
 
--- in round 0 the head is that of 01
+-- in round 0 the head is that of the scope paper
 head-of-zero : (S : Setting) → S .round ≡ 0 → (tag d : ℕ) → headBytes tag S d ≡ roundlessHead tag S d
 unfolding headBytes roundlessHead
 head-of-zero S e tag d = ap (λ (bs : List ℕ). tag ∷ S .number ∷ S .n ∷ S .t ∷ (bs ++ (d ∷ []))) (round-none (S .round) e)
@@ -67,12 +68,12 @@ head-of-zero S e tag d = ap (λ (bs : List ℕ). tag ∷ S .number ∷ S .n ∷ 
 pub round-zero : RoundZero
 unfolding dealingMessage shareMessage coefficientMessage
 round-zero S e d =
-    let of-01 : (tag : ℕ) (rest : List ℕ) → message tag S d rest ≡ roundlessMessage tag S d rest =
+    let roundless : (tag : ℕ) (rest : List ℕ) → message tag S d rest ≡ roundlessMessage tag S d rest =
     λ tag rest. ap (λ (h : List ℕ). h ++ rest) (head-of-zero S e tag d) in
     record {
-      dealing = λ v Y a1 a2. of-01 dealingTag (dealingFigures (S .n) v Y a1 a2);
-      share = λ tag i y Y Z a1 a2. of-01 tag (shareFigures i y Y Z a1 a2);
-      coefficient = λ v Y k. of-01 coefficientTag (coefficientFigures (S .n) v Y k);
+      dealing = λ v Y a1 a2. roundless dealingTag (dealingFigures (S .n) v Y a1 a2);
+      share = λ tag i y Y Z a1 a2. roundless tag (shareFigures i y Y Z a1 a2);
+      coefficient = λ v Y k. roundless coefficientTag (coefficientFigures (S .n) v Y k);
     }
 
 -- what stands behind t tells the round
@@ -97,12 +98,43 @@ round-told r s h k x y e f = by-tests (eqb r 0) (eqb s 0) refl refl
         ∙ ap (λ (t : List ℕ). wordAt t 0) (ap (λ (t : List ℕ). t ++ x) (sym (some r p)) ∙ f ∙ ap (λ (t : List ℕ). t ++ y) (some s q))
         ∙ word-back s y k
 
+-- ---- a message of any kind
+restOf : ℕ → Hashed → List ℕ
+restOf n (dealing v Y a1 a2) = dealingFigures n v Y a1 a2
+restOf n (opened i y Y Z a1 a2) = shareFigures i y Y Z a1 a2
+restOf n (added i y Y Z a1 a2) = shareFigures i y Y Z a1 a2
+restOf n (coefficient v Y k) = coefficientFigures n v Y k
+
+headed : (S : Setting) (d : ℕ) (x : Hashed) → messageOf S d x ≡ message (tagOf x) S d (restOf (S .n) x)
+unfolding dealingMessage shareMessage coefficientMessage restOf
+headed S d (dealing v Y a1 a2) = refl
+headed S d (opened i y Y Z a1 a2) = refl
+headed S d (added i y Y Z a1 a2) = refl
+headed S d (coefficient v Y k) = refl
+
+-- tag and n tell how many bytes stand behind its head
+restSize : ℕ → ℕ → ℕ
+restSize tag n = pick (eqb tag dealingTag) (16 * n) (pick (eqb tag coefficientTag) (suc (8 * n)) 21)
+
+rest-size : (n : ℕ) (x : Hashed) → length (restOf n x) ≡ restSize (tagOf x) n
+unfolding restOf restSize
+rest-size n (dealing v Y a1 a2) = members-length (λ i. v i ∷ Y i ∷ a1 i ∷ a2 i ∷ []) 16 (λ i. refl) n
+rest-size n (opened i y Y Z a1 a2) = ap suc (words-length (y ∷ Y ∷ Z ∷ a1 ∷ a2 ∷ []))
+rest-size n (added i y Y Z a1 a2) = ap suc (words-length (y ∷ Y ∷ Z ∷ a1 ∷ a2 ∷ []))
+rest-size n (coefficient v Y k) = ap suc (members-length (λ i. v i ∷ Y i ∷ []) 8 (λ i. refl) n)
+
 pub round-hashed : RoundHashed
 unfolding headBytes
-round-hashed S T h k tag₁ tag₂ d e x y l f =
-    let same : roundBytes (S .round) ++ (d ∷ x) ≡ roundBytes (T .round) ++ (e ∷ y) =
-    sym (append-assoc (roundBytes (S .round)) (d ∷ []) x) ∙ ap (drop 4) f ∙ append-assoc (roundBytes (T .round)) (e ∷ []) y in
-    round-told (S .round) (T .round) h k (d ∷ x) (e ∷ y) (omega arith) same
+round-hashed S T h k d e x y f =
+    let a = restOf (S .n) x in
+    let b = restOf (T .n) y in
+    let m : message (tagOf x) S d a ≡ message (tagOf y) T e b = sym (headed S d x) ∙ f ∙ headed T e y in
+    let tags : tagOf x ≡ tagOf y = ap (λ (l : List ℕ). getD l 0 0) m in
+    let ns : S .n ≡ T .n = ap (λ (l : List ℕ). getD l 2 0) m in
+    let sizes : length a ≡ length b = rest-size (S .n) x ∙ (λ j. restSize (tags j) (ns j)) ∙ sym (rest-size (T .n) y) in
+    let behind : roundBytes (S .round) ++ (d ∷ a) ≡ roundBytes (T .round) ++ (e ∷ b) =
+    sym (append-assoc (roundBytes (S .round)) (d ∷ []) a) ∙ ap (drop 4) m ∙ append-assoc (roundBytes (T .round)) (e ∷ []) b in
+    (tags, round-told (S .round) (T .round) h k (d ∷ a) (e ∷ b) (ap suc sizes) behind)
 
 pub bytes-same : (f g : ℕ → List ℕ) (is : List ℕ) → All (λ i. f i ≡ g i) is → bytesOver f is ≡ bytesOver g is
 unfolding bytesOver

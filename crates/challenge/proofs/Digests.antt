@@ -33,18 +33,18 @@ module _ (S : Setting) (r : Record) (word : r .w0 < 2 ^ 32) where
   first-word : bigEndian 0 (wordBytes (r .w0)) ≡ r .w0
   first-word = word-number 0 (r .w0) word ∙ omega arith
 
-  pub old-exponent : S .whole ≡ false → bigEndian (r .w0) (wordBytes (r .w1)) % S .group .q ≡ exponentOf S (recordBytes r)
+  pub old-exponent : S .«whole_digest» ≡ false → bigEndian (r .w0) (wordBytes (r .w1)) % S .group .q ≡ exponentOf S (recordBytes r)
   unfolding exponentOf recordBytes wordsBytes wordBytes
   old-exponent e =
       let D = recordBytes r in
       ap (λ (x : ℕ). bigEndian x (wordBytes (r .w1)) % S .group .q) (sym first-word)
-      ∙ ap (λ (bs : List ℕ). bigEndian 0 bs % S .group .q) (sym (pick-false (S .whole) D (take 8 D) e))
+      ∙ ap (λ (bs : List ℕ). bigEndian 0 bs % S .group .q) (sym (pick-false (S .«whole_digest») D (take 8 D) e))
 
-  pub new-exponent : S .whole ≡ true
+  pub new-exponent : S .«whole_digest» ≡ true
       → remainderBehind (S .group .q) (bigEndian (r .w0) (wordBytes (r .w1)) % S .group .q) (lastWords r) ≡ exponentOf S (recordBytes r)
   unfolding exponentOf recordBytes wordsBytes wordBytes
   new-exponent e =
       let D = recordBytes r in
       word-by-word (S .group .q) (bigEndian (r .w0) (wordBytes (r .w1))) (lastWords r)
       ∙ ap (λ (x : ℕ). bigEndian (bigEndian x (wordBytes (r .w1))) (wordsBytes (lastWords r)) % S .group .q) (sym first-word)
-      ∙ ap (λ (bs : List ℕ). bigEndian 0 bs % S .group .q) (sym (pick-true (S .whole) D (take 8 D) e))
+      ∙ ap (λ (bs : List ℕ). bigEndian 0 bs % S .group .q) (sym (pick-true (S .«whole_digest») D (take 8 D) e))

@@ -1,11 +1,12 @@
--- The challenges of "abc" around the first round under the new rule, by computing them from its digest.
-use mathlib.Core.Path.{ap}
+-- The challenges of "abc" around the first round under the new rule, by computing them from its digest; the head of a message, by its bytes.
+use mathlib.Core.Path.{refl, ap}
+use Rattle.words.specs.Bytes.{wordBytes}
 use Rattle.sha256.proofs.Examples.{abc}
 use Rattle.group.specs.Table.{groupsOf, groupOf}
 use Rattle.sharing.specs.Setting.{takesWhole}
 use Rattle.challenge.specs.Exponent.{exponentOf}
-use Rattle.challenge.specs.Message.{challengeOf}
-use Rattle.challenge.specs.Claims.{largeIn, AroundFirst}
+use Rattle.challenge.specs.Message.{roundBytes, headBytes, challengeOf}
+use Rattle.challenge.specs.Claims.{largeIn, AroundFirst, HeadFigures}
 
 pub around-first : AroundFirst
 unfolding challengeOf exponentOf takesWhole groupsOf groupOf
@@ -17,3 +18,7 @@ around-first =
       in-zero = ap (exponentOf (largeIn 0 1)) abc;
       without = ap (exponentOf (largeIn 7 0)) abc;
     }
+
+pub head-figures : HeadFigures
+unfolding headBytes roundBytes wordBytes
+head-figures = record { in-round = λ tag d. refl; in-zero = λ tag d. refl }

@@ -7,9 +7,9 @@ use Rattle.words.specs.Bytes.{wordBytes, bigEndian}
 use Rattle.words.specs.declared.Record.{Record}
 use Rattle.sharing.specs.declared.Setting.{Setting}
 
--- the digest's bytes as one number, modulo q: all 32 of them under the new rule, and the first 8 under that of 01
+-- the digest's bytes as one number, modulo q: all 32 of them under the new rule, and the first 8 under that of the scope paper
 unfoldable pub exponentOf : Setting → List ℕ → ℕ
-exponentOf S D = bigEndian 0 (pick (S .whole) D (take 8 D)) % S .group .q
+exponentOf S D = bigEndian 0 (pick (S .«whole_digest») D (take 8 D)) % S .group .q
 
 -- the words of a digest behind its first 8 bytes
 abbrev pub lastWords : Record → List ℕ

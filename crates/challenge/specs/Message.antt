@@ -61,7 +61,7 @@ coefficientFigures n v Y k = k ∷ bytesOver (λ i. v i ∷ Y i ∷ []) (members
 unfoldable pub coefficientMessage : Setting → ℕ → (ℕ → ℕ) → (ℕ → ℕ) → ℕ → List ℕ
 coefficientMessage S d v Y k = message coefficientTag S d (coefficientFigures (S .n) v Y k)
 
--- ---- a message of 01, which has nothing of the round in it
+-- ---- a message of the scope paper, which has nothing of the round in it
 unfoldable pub roundlessHead : ℕ → Setting → ℕ → List ℕ
 roundlessHead tag S d = tag ∷ S .number ∷ S .n ∷ S .t ∷ d ∷ []
 

@@ -36,7 +36,7 @@ pub(crate) fn exponent_of(s: Setting, d: Record) -> Exponent
     ensures { λ r. ⌜ r .0 ≡ exponentOf s (recordBytes d) ⌝ }
 {
     let first = remainder(s.group.q, d.w0, d.w1);
-    if s.whole {
+    if s.whole_digest {
         Exponent(with_rest(s.group.q, first, d))
     } else {
         Exponent(first)

@@ -4,10 +4,11 @@ use mathlib.Core.List.{List, [], _∷_}
 use Prim.Native.Nat.{ℕ}
 use Rattle.words.specs.Bytes.{wordAt, wordBytes, wordsBytes, recordBytes, recordIn, recordAt, agrees}
 use Rattle.words.specs.Checks.{value}
+use Rattle.words.specs.Lists.{entry}
 use Rattle.field.specs.Residue.{add, mul, sub, inv}
 use Rattle.sha256.specs.Constants.{K, initial}
 use Rattle.sha256.specs.Padding.{zeroBits, bits64, pad, blocks, block}
-use Rattle.sha256.specs.Hash.{later, W, schedule, T₁, T₂, round, rounds, plus, compress, intermediate, hashValue, hash}
+use Rattle.sha256.specs.Hash.{later, W, schedule, T₁, T₂, round, rounds, addStates, compress, intermediate, hashValue, hash}
 use Rattle.group.specs.Power.{pow}
 use Rattle.group.specs.Table.{groupsOf, groupOf}
 use Rattle.group.specs.Element.{isElement, isGenerator, isExponent}
@@ -15,12 +16,12 @@ use Rattle.sharing.specs.Setting.{takesWhole, isMember}
 use Rattle.sharing.specs.Weights.{gapsAt, weightAt, weightsOf, powersProduct}
 use Rattle.sharing.specs.Answer.{degreeProduct}
 use Rattle.sharing.specs.Figures.{small}
-use Rattle.records.specs.Layout.{entry}
 use Rattle.records.specs.Keys.{isKey, keyChecks}
 use Rattle.challenge.specs.Exponent.{exponentOf}
 use Rattle.challenge.specs.Message.{roundBytes, headBytes, bytesOver, challengeOf, dealingMessage, shareMessage, coefficientMessage, checkPolynomial}
 use Rattle.equality.specs.Equality.{announced}
-use Rattle.dealing.specs.Dealing.{addressChecks, vIn, YIn, rIn, cIn, judgeSizeChecks, isLineFor, lineChecks, dealingFormChecks, recomputed, rangeChecks, equationChecks, judgeDealingIn}
+use Rattle.lines.specs.Lines.{addressChecks, vIn, YIn, rIn, cIn, isLineFor, lineChecks}
+use Rattle.dealing.specs.Dealing.{judgeSizeChecks, dealingFormChecks, recomputed, rangeChecks, equationChecks, judgeDealingIn}
 use Rattle.share.specs.Share.{openedForm, addedForm, isDealer, membersChecks, shareRecomputed, shareInputChecks, shareFormChecks, shareAdmissionChecks, shareFigureChecks, judgeShareIn}
 use Rattle.conditions.specs.Boards.{share, added, firstLines, uncarriedLines, secondLines}
 
@@ -49,5 +50,5 @@ pub record Answers : Type 0 where
   pub added-forged : AddedShare 1 8 12 16 2 3
 
 pub answers : Answers
-unfolding wordAt wordBytes wordsBytes recordBytes recordIn add mul sub inv K initial zeroBits bits64 pad blocks block later W schedule T₁ T₂ round rounds plus compress intermediate hashValue hash pow groupsOf groupOf takesWhole isElement isExponent isMember gapsAt weightAt weightsOf powersProduct degreeProduct agrees entry recordAt isGenerator isKey keyChecks roundBytes headBytes bytesOver exponentOf challengeOf dealingMessage shareMessage coefficientMessage checkPolynomial announced addressChecks vIn YIn rIn cIn judgeSizeChecks isLineFor lineChecks dealingFormChecks recomputed rangeChecks equationChecks judgeDealingIn isDealer membersChecks shareRecomputed shareInputChecks shareFormChecks shareAdmissionChecks shareFigureChecks judgeShareIn
+unfolding wordAt wordBytes wordsBytes recordBytes recordIn add mul sub inv K initial zeroBits bits64 pad blocks block later W schedule T₁ T₂ round rounds addStates compress intermediate hashValue hash pow groupsOf groupOf takesWhole isElement isExponent isMember gapsAt weightAt weightsOf powersProduct degreeProduct agrees entry recordAt isGenerator isKey keyChecks roundBytes headBytes bytesOver exponentOf challengeOf dealingMessage shareMessage coefficientMessage checkPolynomial announced addressChecks vIn YIn rIn cIn judgeSizeChecks isLineFor lineChecks dealingFormChecks recomputed rangeChecks equationChecks judgeDealingIn isDealer membersChecks shareRecomputed shareInputChecks shareFormChecks shareAdmissionChecks shareFigureChecks judgeShareIn
 answers = record { first = refl; uncarried = refl; second = refl; share-1 = refl; share-2 = refl; share-3 = refl; forged = refl; added-1 = refl; added-2 = refl; added-forged = refl }

@@ -9,7 +9,7 @@ use borrow.Author.Tests.{eqb-true, eq-eqb}
 use lib.Dec.{eqb}
 use lib.ListN.{length, getD, take}
 use Rattle.words.specs.Choice.{pick}
-use Rattle.words.specs.Lists.{All, map, upFrom}
+use Rattle.words.specs.Lists.{All, map, upFrom, entry}
 use Rattle.words.specs.Checks.{Outcome, value, outcome, Met}
 use Rattle.words.specs.Bytes.{recordsIn, recordAt}
 use Rattle.words.proofs.Lists.{up-length, up-at}
@@ -20,17 +20,17 @@ use Rattle.group.specs.Table.{groupsOf, groupOf}
 use Rattle.group.specs.declared.Element.{Element}
 use Rattle.sharing.specs.Carried.{Carries}
 use Rattle.sharing.specs.Figures.{smallRound, small}
-use Rattle.sums.specs.Sum.{sumOf}
+use Rattle.sharing.specs.Sum.{sumOf}
 use Rattle.sharing.proofs.Figures.{small-proper, carried-figures, refused-uncarried}
-use Rattle.records.specs.Layout.{shareKind, dealerOf, memberOf, ZOf, entry}
-use Rattle.dealing.specs.Dealing.{vIn}
+use Rattle.records.specs.Layout.{shareKind, dealerOf, memberOf, ZOf}
+use Rattle.lines.specs.Lines.{vIn}
 use Rattle.share.specs.Share.{openedForm}
 use Rattle.board.specs.Board.{boardChecks, linesOf}
 use Rattle.board.proofs.Numbers.{board-met}
 use Rattle.verdicts.specs.Shares.{judges, recoveredFrom}
 use Rattle.verdicts.specs.Verdict.{isAccepted, commitmentsOf, encryptedOf, isShareBy, secretBy}
 use Rattle.verdicts.specs.Added.{addedBy}
-use Rattle.verdicts.specs.Draw.{countAccepted, anyStuck, secretsProduct, endChecks, drawOf, drawOn}
+use Rattle.verdicts.specs.Draw.{countAccepted, anyStuck, secretsProduct, endChecks, reachedDraw, drawOutcome}
 use Rattle.verdicts.proofs.ShareAnswers.{share-address}
 use Rattle.verdicts.specs.declared.Secret.{Secret}
 use Rattle.verdicts.specs.declared.Secret.the-variants.{Opened, Recovered, Stuck}
@@ -41,7 +41,7 @@ use Rattle.demand3.proofs.VerdictCases.{verdict-rules}
 use Rattle.demand3.proofs.Endings.{reached-draw}
 use Rattle.demand3.proofs.TwoBoards.{draw-by-round}
 use Rattle.conditions.specs.Boards.{uncarriedLow, uncarriedHigh, addedBoard}
-use Rattle.conditions.specs.Claims.{polynomialOf, DrawIs, ConditionsMet, OtherConditions, AllCarried, AllTrue, CarriedNeeded, TrueNeeded, AddedMet, OtherAdded, AddedTrueNeeded}
+use Rattle.conditions.specs.Claims.{polynomialOf, DrawIs, ConditionsMet, OtherConditions, EachCarried, AllTrue, CarriedNeeded, TrueNeeded, AddedMet, OtherAdded, AddedTrueNeeded}
 use Rattle.conditions.proofs.Known.{opened, Known, two-accepted, everyShare, isTrueShare, isTrueToLine, all-known, AddedKnown, all-added}
 
 -- ---- a fact of each of four members
@@ -79,8 +79,8 @@ module _ {b vs : List ℕ} {s : Secret} (K : Known b vs s) where
       by-four (λ d. isAccepted judges small b d ≡ true → P d) (λ a. p) (λ a. q)
       (λ a. absurd (false-true (sym (K .third .0) ∙ a))) (λ a. absurd (false-true (sym (K .fourth .0) ∙ a)))
 
-  draw : drawOn judges [] smallRound b ≡ endOf b (Accepted s ∷ Accepted (opened 3) ∷ None ∷ None ∷ []) (addedBy judges small b)
-  unfolding groupsOf groupOf drawOf
+  draw : drawOutcome judges [] smallRound b ≡ endOf b (Accepted s ∷ Accepted (opened 3) ∷ None ∷ None ∷ []) (addedBy judges small b)
+  unfolding groupsOf groupOf reachedDraw
   draw =
       let v = rule 1 .accepted s .1 (K .first, K .first-secret) in
       let w = rule 2 .accepted (opened 3) .1 (K .second, K .second-secret) in
@@ -109,7 +109,7 @@ module _ {b : List ℕ} {s : Secret} (K : Known b (9 ∷ 16 ∷ 8 ∷ 4 ∷ []) 
   carries : Carries small (polynomialOf 1) (commitmentsOf small b 1) × Carries small (polynomialOf 2) (commitmentsOf small b 2)
   carries = (rw (K .commitments .0) (carried-figures .1), rw (K .commitments .1) (all-known .second-carried))
 
-  carried : AllCarried b
+  carried : EachCarried b
   carried = of-accepted K _ (polynomialOf 1, carries .0) (polynomialOf 2, carries .1)
 
 -- ---- two boards with the same commitments

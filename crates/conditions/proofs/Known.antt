@@ -6,7 +6,7 @@ use Prim.Native.Nat.{ℕ}
 use native.Mathlib.Omega.{arith}
 use lib.Dec.{eqb}
 use Rattle.words.specs.Choice.{pick}
-use Rattle.words.specs.Lists.{map, all, upFrom}
+use Rattle.words.specs.Lists.{map, all, upFrom, entry}
 use Rattle.words.specs.Checks.{Outcome, refused, isValue, refusal}
 use Rattle.words.specs.Bytes.{wordAt, wordBytes, wordsBytes, recordBytes, recordIn, recordsIn, recordAt, agrees}
 use Rattle.field.specs.Residue.{add, mul, sub, inv}
@@ -20,11 +20,11 @@ use Rattle.sharing.specs.Weights.{gapsAt, weightAt, weightsOf, lagrangeAt, powe
 use Rattle.sharing.specs.Answer.{degreeProduct, degreeFigures, degreeEquation, degreeIn, recovered, isOpening, openingFigures, openingEquation, openingIn}
 use Rattle.sharing.specs.Carried.{powersAt, Carries}
 use Rattle.sharing.specs.Figures.{small}
-use Rattle.sums.specs.Sum.{sumOf}
-use Rattle.records.specs.Layout.{shareKind, dealerOf, memberOf, ZOf, entry}
+use Rattle.sharing.specs.Sum.{sumOf}
+use Rattle.records.specs.Layout.{shareKind, dealerOf, memberOf, ZOf}
 use Rattle.records.specs.Keys.{isKey, keyChecks}
-use Rattle.dealing.specs.Dealing.{vIn, YIn, vsIn}
-use Rattle.board.specs.Board.{isShaped, isBelow, formChecks, placeOf, isAt, recordBy, keyIn, boardKeyChecks, boardChecks, lineCount, linesOf}
+use Rattle.lines.specs.Lines.{vIn, YIn, vsIn}
+use Rattle.board.specs.Board.{isShaped, isBelow, formChecks, placeOf, isAt, recordPlace, keyIn, boardKeyChecks, boardChecks, lineCount, linesOf}
 use Rattle.share.specs.Share.{addedForm}
 use Rattle.verdicts.specs.Shares.{judges, shareAnswer, isShareIn, sharesIn, recoveredFrom, fromLowest}
 use Rattle.verdicts.specs.Verdict.{isAccepted, commitmentsOf, encryptedOf, secretFrom, fromShares, isOpened, secretBy, verdictOn}
@@ -113,7 +113,7 @@ pub record AllKnown : Type 0 where
   pub second-carried : Carries small (polynomialOf 2) (6 ∷ 18 ∷ 8 ∷ 1 ∷ [])
 
 pub all-known : AllKnown
-unfolding wordAt wordBytes wordsBytes recordBytes recordIn add mul sub inv pow groupsOf groupOf isElement isExponent isMember gapsAt weightAt weightsOf lagrangeAt powersProduct degreeProduct degreeFigures degreeEquation degreeIn recovered isOpening openingFigures openingEquation openingIn powersAt agrees entry recordAt isGenerator isKey keyChecks vIn YIn vsIn isShaped isBelow formChecks placeOf isAt recordBy keyIn boardKeyChecks boardChecks lineCount linesOf isAccepted encryptedOf shareAnswer isShareIn sharesIn fromLowest fromShares isOpened secretBy verdictOn
+unfolding wordAt wordBytes wordsBytes recordBytes recordIn add mul sub inv pow groupsOf groupOf isElement isExponent isMember gapsAt weightAt weightsOf lagrangeAt powersProduct degreeProduct degreeFigures degreeEquation degreeIn recovered isOpening openingFigures openingEquation openingIn powersAt agrees entry recordAt isGenerator isKey keyChecks vIn YIn vsIn isShaped isBelow formChecks placeOf isAt recordPlace keyIn boardKeyChecks boardChecks lineCount linesOf isAccepted encryptedOf shareAnswer isShareIn sharesIn fromLowest fromShares isOpened secretBy verdictOn
 all-known =
     let first = ap isValue (answers .first) in
     let uncarried = ap isValue (answers .uncarried) in
@@ -162,7 +162,7 @@ pub record AllAdded : Type 0 where
   pub sum-carries : Carries small (9 ∷ 9 ∷ []) (8 ∷ 12 ∷ 18 ∷ 4 ∷ [])
 
 pub all-added : AllAdded
-unfolding wordAt wordBytes wordsBytes recordBytes recordIn add mul sub inv pow groupsOf groupOf isElement lagrangeAt powersProduct recovered powersAt entry recordAt vIn YIn isBelow placeOf isAt recordBy keyIn linesOf shareAnswer isShareIn sharesIn
+unfolding wordAt wordBytes wordsBytes recordBytes recordIn add mul sub inv pow groupsOf groupOf isElement lagrangeAt powersProduct recovered powersAt entry recordAt vIn YIn isBelow placeOf isAt recordPlace keyIn linesOf shareAnswer isShareIn sharesIn
 all-added =
     let shares : List ℕ → List ℕ → List ℕ = λ b Ys. sharesIn judges small b addedForm Ys in
     record {

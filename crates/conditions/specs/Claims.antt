@@ -15,12 +15,12 @@ use Rattle.sharing.specs.Setting.{ProperSetting}
 use Rattle.sharing.specs.Carried.{Carries}
 use Rattle.sharing.specs.Figures.{smallRound, small}
 use Rattle.records.specs.Layout.{memberOf, ZOf}
-use Rattle.dealing.specs.Dealing.{vIn}
+use Rattle.lines.specs.Lines.{vIn}
 use Rattle.board.specs.Board.{boardChecks, linesOf}
 use Rattle.verdicts.specs.Shares.{judges}
 use Rattle.verdicts.specs.Verdict.{isAccepted, commitmentsOf, isShareBy}
 use Rattle.verdicts.specs.Added.{acceptedDealers, multiplied, addedBy}
-use Rattle.verdicts.specs.Draw.{drawOn}
+use Rattle.verdicts.specs.Draw.{drawOutcome}
 use Rattle.demand3.specs.Claims.{Revealed, powerOfH, SomeStuck, AllRecoverable, AddedTrue, SameDealings}
 use Rattle.conditions.specs.Boards.{openedBoard, silentBoard, forgedBoard, uncarriedLow, uncarriedHigh, addedBoard, forgedAdded}
 
@@ -30,7 +30,7 @@ polynomialOf d = pick (eqb d 1) (3 ∷ 5 ∷ []) (6 ∷ 4 ∷ [])
 
 -- what the board judge answers for a board of group 1 with n = 4 and t = 2, whose setting is that of all these claims
 abbrev pub DrawIs : List ℕ → ℕ → Type 0
-DrawIs b v = drawOn judges [] smallRound b ≡ value (record { 0 = v })
+DrawIs b v = drawOutcome judges [] smallRound b ≡ value (record { 0 = v })
 
 -- ---- the conditions are met: where the first dealer has opened and where he is silent, the draw is 2
 pub record ConditionsMet : Type 0 where
@@ -53,8 +53,8 @@ abbrev pub Compared : List ℕ → List ℕ → Type 0
 Compared b c = OtherConditions b × OtherConditions c × SameDealings judges small small b c
 
 -- every accepted dealing is carried by a polynomial of degree below t
-abbrev pub AllCarried : List ℕ → Type 0
-AllCarried b = (d : ℕ) → 1 ≤ d → d ≤ 4 → isAccepted judges small b d ≡ true → (f : List ℕ) × Carries small f (commitmentsOf small b d)
+abbrev pub EachCarried : List ℕ → Type 0
+EachCarried b = (d : ℕ) → 1 ≤ d → d ≤ 4 → isAccepted judges small b d ≡ true → (f : List ℕ) × Carries small f (commitmentsOf small b d)
 
 -- every accepted share is true to its line: it is h to the exponent of the line's commitment
 abbrev pub AllTrue : List ℕ → Type 0
@@ -70,7 +70,7 @@ CarriedNeeded =
 
 -- ---- that accepted shares are true cannot be dropped: all dealings are carried, and the draws are 2 and 9
 abbrev pub TrueNeeded : Type 0
-TrueNeeded = Compared silentBoard forgedBoard × AllCarried silentBoard × AllCarried forgedBoard × DrawIs silentBoard 2 × DrawIs forgedBoard 9
+TrueNeeded = Compared silentBoard forgedBoard × EachCarried silentBoard × EachCarried forgedBoard × DrawIs silentBoard 2 × DrawIs forgedBoard 9
 
 -- ---- added shares: the conditions are met where the first dealer is silent and his dealing is stuck, and the draw is 2 too
 pub record AddedMet : Type 0 where
@@ -85,7 +85,7 @@ pub record AddedMet : Type 0 where
 -- all conditions on a board that ends by added shares but that these are true
 pub record OtherAdded (b : List ℕ) : Type 0 where
   pub reached : Met (boardChecks small b)
-  pub carried : AllCarried b
+  pub carried : EachCarried b
   pub stuck : SomeStuck judges small b
   pub enough : 2 ≤ length (addedBy judges small b)
 

@@ -1,4 +1,5 @@
--- A board of 01 that is refused now, in the round of the other boards: the keys of four members, of which the first and the last are equal.
+-- A board that the scope paper let through and that is refused now, in the round of the other boards: the keys of four members, of which
+-- the first and the last are equal.
 use mathlib.Core.Path.{_≡_}
 use mathlib.Core.List.{List, _++_}
 use Prim.Native.Nat.{ℕ}
@@ -15,7 +16,7 @@ use Rattle.demand3.specs.Filed.{OfThen, filedBoardChecks, filedDraw}
 abbrev pub equalKeys : List ℕ
 equalKeys = recordBytes (keyLayout 1 4 0) ++ (recordBytes (keyLayout 2 9 0) ++ (recordBytes (keyLayout 3 2 0) ++ recordBytes (keyLayout 4 4 0)))
 
--- it meets what is asked of such a board; 01 let it through to the verdicts, and found too few dealings
+-- it meets what is asked of such a board; the scope paper let it through to the verdicts, and found too few dealings
 pub record EqualKeysFiled : Type 0 where
   pub of-then : OfThen equalKeys
   pub let-through : Met (filedBoardChecks small equalKeys)

@@ -1,73 +1,27 @@
--- Figures of the members: arrays that hold them, and tests, messages and checks that only these figures tell.
-use mathlib.Core.Path.{_≡_, refl, sym, ap, _∙_}
-use mathlib.Core.Bool.{Bool, _&&_}
+-- Messages and checks that only the members' figures tell: where figures agree they are the same, so lines are judged as their columns.
+use mathlib.Core.Path.{_≡_, ap}
+use mathlib.Core.Bool.{_&&_}
 use mathlib.Core.List.{List, [], _∷_}
-use Prim.Native.Nat.{ℕ, _-_, _≤_}
-use native.Mathlib.Omega.{arith}
+use Prim.Native.Nat.{ℕ, _-_}
 use lib.Dec.{eqb}
-use lib.ListN.{length, getD, take}
-use lib.Seq.{length-take-le, ext-getD, getD-take}
-use Rattle.words.specs.Lists.{All, map, all, upFrom, filled}
+use Rattle.words.specs.Lists.{map, upFrom, entry}
 use Rattle.words.specs.Checks.{_unless_}
-use Rattle.words.proofs.Lists.{All-each, map-length, map-at, map-same, up-length}
-use Rattle.words.proofs.Tests.{all-map}
+use Rattle.words.proofs.Lists.{All-each, map-same}
 use Rattle.group.specs.Element.{isElement, isExponent}
 use Rattle.sharing.specs.Setting.{members}
 use Rattle.sharing.specs.Answer.{degreeProduct}
 use Rattle.sharing.specs.declared.Setting.{Setting}
-use Rattle.sharing.proofs.Loops.{member-at}
-use Rattle.records.specs.Layout.{entry}
-use Rattle.records.proofs.Members.{each-members, number-at, members-front}
+use Rattle.sharing.proofs.EachMember.{each-members, Agree, filled-agree, tests-same}
 use Rattle.challenge.specs.Message.{message, coefficientTag, challengeOf, dealingMessage, coefficientMessage, checkPolynomial}
 use Rattle.challenge.proofs.Challenges.{bytes-same, message-same}
 use Rattle.equality.specs.Equality.{announced}
-use Rattle.dealing.specs.Dealing.{vIn, YIn, rIn, cIn, recomputed, rangeChecks, equationChecks, figureChecks, lineFigureChecks}
-use Rattle.dealing.specs.Columns.{columnsOf, columnChecks}
-use Rattle.dealing.specs.declared.Columns.{Columns}
-
--- ---- two functions of the member that agree on the members
-pub record Agree (n : ℕ) (f g : ℕ → ℕ) : Type 0 where
-  pub at : (i : ℕ) → 1 ≤ i → i ≤ n → f i ≡ g i
-
--- the entries of a list that a function gives are its values
-pub member-entry : (f : ℕ → ℕ) (n i : ℕ) → 1 ≤ i → i ≤ n → entry (map f (members n)) i ≡ f i
-unfolding entry
-member-entry f n i h k = map-at f (members n) (i - 1) 0 0 (omega (arith, up-length 1 n)) ∙ ap f (member-at n i h k)
-
--- so are those of an array that it fills
-pub filled-agree : (f : ℕ → ℕ) (n : ℕ) {l : List ℕ} → l ≡ filled 31 (map f (members n)) → Agree n (entry l) f
-unfolding entry
-filled-agree f n {l} e =
-    record {
-      at = λ i h k.
-          sym (getD-take n l (i - 1) 0 (omega arith))
-          ∙ ap (λ (x : List ℕ). getD x (i - 1) 0) (members-front f n e)
-          ∙ member-entry f n i h k;
-    }
-
--- the first n figures of a list are its entries
-pub entries-front : (l : List ℕ) (n : ℕ) → n ≤ length l → take n l ≡ map (entry l) (members n)
-unfolding entry
-entries-front l n h =
-    let s = length-take-le n l h in
-    let e = map-length (entry l) (members n) ∙ up-length 1 n in
-    ext-getD 0 (take n l) (map (entry l) (members n)) (s ∙ sym e)
-    (λ k b.
-    let number : getD (members n) k 0 - 1 ≡ k = ap (λ (x : ℕ). x - 1) (number-at n k (omega arith)) ∙ omega arith in
-    getD-take n l k 0 (omega arith)
-    ∙ sym (map-at (entry l) (members n) k 0 0 (omega (arith, up-length 1 n)) ∙ ap (λ (x : ℕ). getD l x 0) number))
-
-pub entries-all : (f : ℕ → Bool) (l : List ℕ) (n : ℕ) → n ≤ length l → all f (take n l) ≡ all (λ i. f (entry l i)) (members n)
-entries-all f l n h = ap (all f) (entries-front l n h) ∙ all-map f (entry l) (members n)
+use Rattle.lines.specs.Lines.{vIn, YIn, rIn, cIn}
+use Rattle.lines.specs.Columns.{columnsOf}
+use Rattle.lines.specs.declared.Columns.{Columns}
+use Rattle.dealing.specs.Dealing.{recomputed, rangeChecks, equationChecks, figureChecks, lineFigureChecks}
+use Rattle.dealing.specs.Columns.{columnChecks}
 
 -- ---- what figures that agree tell alike
-tests-same : (f g : ℕ → Bool) (n : ℕ) → ((i : ℕ) → 1 ≤ i → i ≤ n → f i ≡ g i) → all f (members n) ≡ all g (members n)
-tests-same f g n h = same (members n) (each-members (λ i. f i ≡ g i) n h)
-  where
-    same : (xs : List ℕ) → All (λ i. f i ≡ g i) xs → all f xs ≡ all g xs
-    same [] a = refl
-    same (x ∷ xs) a = λ j. a .0 j && same xs (a .1) j
-
 module _ (S : Setting) (d : ℕ) {v Y v' Y' : ℕ → ℕ} (p : Agree (S .n) v v') (q : Agree (S .n) Y Y') where
   pub challenge-same : {a b a' b' : ℕ → ℕ} → Agree (S .n) a a' → Agree (S .n) b b'
       → challengeOf S (dealingMessage S d v Y a b) ≡ challengeOf S (dealingMessage S d v' Y' a' b')

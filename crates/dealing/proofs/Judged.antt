@@ -21,13 +21,14 @@ use Rattle.sharing.specs.Carried.{Commitments}
 use Rattle.sharing.specs.declared.Setting.{Setting}
 use Rattle.sharing.proofs.Degree.{product-passes}
 use Rattle.sharing.proofs.Theorems.{uncarried-one-value}
-use Rattle.records.specs.Layout.{isLineRecord, dealerOf, memberOf, roundOf, recordOf}
+use Rattle.sharing.proofs.EachMember.{each-members, members-exactly, members-false}
+use Rattle.records.specs.Layout.{isLineRecord, dealerOf, memberOf, roundOf, memberRecord}
 use Rattle.records.specs.Keys.{keyChecks}
-use Rattle.records.proofs.Members.{each-members, members-exactly, members-false}
 use Rattle.records.proofs.ProperKeys.{keys-proper}
 use Rattle.challenge.specs.Message.{checkPolynomial}
 use Rattle.challenge.proofs.Challenges.{check-polynomial}
-use Rattle.dealing.specs.Dealing.{addressChecks, judgeSizeChecks, vIn, YIn, rIn, cIn, vsIn, isLineFor, isLineOf, isLineOfRound, lineChecks, dealingFormChecks, recomputed, rangeChecks, equationChecks, lineFigureChecks, judgeDealingChecks, judgeDealingIn}
+use Rattle.lines.specs.Lines.{addressChecks, vIn, YIn, rIn, cIn, vsIn, isLineFor, isLineOf, isLineOfRound, lineChecks}
+use Rattle.dealing.specs.Dealing.{judgeSizeChecks, dealingFormChecks, recomputed, rangeChecks, equationChecks, lineFigureChecks, judgeDealingChecks, judgeDealingIn}
 use Rattle.dealing.specs.Claims.{Line, PostedDealing, AcceptedDealing, DealingExactly, EquationRefused, DealingRefused, DealingOfOtherRound, AcceptedPasses, AcceptedUncarried}
 use Rattle.dealing.proofs.Settled.{FormedDealing, met-formed, formed-met}
 
@@ -43,7 +44,7 @@ module _ (S : Setting) (d : ℕ) (ys b : List ℕ) where
       → isExponent G (rIn b i) ≡ true → isExponent G (cIn b i) ≡ true → Line S d b i
   unfolding isLineFor
   line i e o v Y r c =
-      let l = recordOf b i in
+      let l = memberRecord b i in
       let form = and-true (isLineRecord l) _ e in
       let address = equal-true (dealerOf l) d (memberOf l) i (form .1) in
       record {
@@ -60,7 +61,7 @@ module _ (S : Setting) (d : ℕ) (ys b : List ℕ) where
   line-form : (i : ℕ) → Line S d b i → isLineOf d b i ≡ true
   unfolding isLineFor
   line-form i L =
-      let l = recordOf b i in
+      let l = memberRecord b i in
       true-and (isLineRecord l) _ (L .kind) (true-equal (dealerOf l) d (memberOf l) i (L .dealer) (L .member))
 
   -- ---- the stages before the equations are met exactly by figures that are proper one by one
@@ -170,11 +171,13 @@ dealing-refused = equations-refused
 
 pub dealing-of-other-round : DealingOfOtherRound
 unfolding judgeDealingIn dealingFormChecks lineChecks
-dealing-of-other-round S d ys b m k e i h l n =
+dealing-of-other-round S d ys b before i h l n =
+    let front = addressChecks S d ++ judgeSizeChecks S ys b in
     let keys = keyChecks (S .group) ys in
-    let other = members-false (isLineOfRound (S .round) b) (S .n) i h l (ne-eqb (roundOf (recordOf b i)) (S .round) n) in
-    let lines : FirstUnmet 17 (lineChecks S d b) = inr (e, inl (other, refl)) in
-    let formed = rest-first (addressChecks S d ++ judgeSizeChecks S ys b) (keys ++ lineChecks S d b) 17 m (rest-first keys (lineChecks S d b) 17 k lines) in
+    let other = members-false (isLineOfRound (S .round) b) (S .n) i h l (ne-eqb (roundOf (memberRecord b i)) (S .round) n) in
+    let lines : FirstUnmet 17 (lineChecks S d b) = inr (before .form, inl (other, refl)) in
+    let behind = rest-first keys (lineChecks S d b) 17 (before .keys) lines in
+    let formed = rest-first front (keys ++ lineChecks S d b) 17 (before .front) behind in
     sym (front-outcome (dealingFormChecks S d ys b) (lineFigureChecks S d ys b) 17 formed tt)
 
 -- the figures' stage decides what is formed, on a board too, whose form and keys are judged

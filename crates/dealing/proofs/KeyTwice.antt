@@ -4,7 +4,8 @@ use mathlib.Core.List.{_++_}
 use Rattle.words.proofs.Stages.{rest-outcome, behind-outcome, front-outcome}
 use Rattle.records.specs.Keys.{keyChecks}
 use Rattle.records.proofs.ProperKeys.{equal-keys}
-use Rattle.dealing.specs.Dealing.{addressChecks, writeSizeChecks, secretChecks, writeDealingIn, judgeSizeChecks, lineChecks, dealingFormChecks, lineFigureChecks, judgeDealingIn}
+use Rattle.lines.specs.Lines.{addressChecks, lineChecks}
+use Rattle.dealing.specs.Dealing.{writeSizeChecks, secretChecks, writeDealingIn, judgeSizeChecks, dealingFormChecks, lineFigureChecks, judgeDealingIn}
 use Rattle.dealing.specs.Claims.{JudgedKeyTwice, WrittenKeyTwice}
 
 pub judged-key-twice : JudgedKeyTwice

@@ -3,6 +3,6 @@ pub mod Entries
 pub mod Settled
 pub mod Judged
 pub mod KeyTwice
-pub mod Lines
+pub mod DistinctKeys
 pub mod Arrays
 pub mod Written

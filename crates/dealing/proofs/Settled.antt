@@ -16,11 +16,12 @@ use Rattle.group.specs.declared.Group.{Group}
 use Rattle.group.proofs.Elements.{exponent-true}
 use Rattle.sharing.specs.Carried.{Polynomial}
 use Rattle.sharing.specs.declared.Setting.{Setting}
+use Rattle.sharing.proofs.EachMember.{member-exactly}
 use Rattle.records.specs.Keys.{keyChecks}
 use Rattle.records.specs.Claims.{ProperKeys}
-use Rattle.records.proofs.Members.{member-exactly}
 use Rattle.records.proofs.ProperKeys.{keys-proper}
-use Rattle.dealing.specs.Dealing.{addressChecks, writeSizeChecks, secretChecks, writeDealingChecks, judgeSizeChecks, lineChecks, dealingFormChecks}
+use Rattle.lines.specs.Lines.{addressChecks, lineChecks}
+use Rattle.dealing.specs.Dealing.{writeSizeChecks, secretChecks, writeDealingChecks, judgeSizeChecks, dealingFormChecks}
 
 -- ---- the judge, before the lines' figures
 pub record FormedDealing (S : Setting) (d : ℕ) (ys b : List ℕ) : Type 0 where

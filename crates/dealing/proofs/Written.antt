@@ -6,11 +6,11 @@ use mathlib.Core.List.{List, _++_}
 use Prim.Native.Nat.{ℕ, _*_, _^_, _≤_, _<_}
 use native.Mathlib.Omega.{arith}
 use lib.ListN.{length}
-use Rattle.words.specs.Lists.{Below}
-use Rattle.words.specs.Checks.{Check, value, refused}
+use Rattle.words.specs.Lists.{Below, entry}
+use Rattle.words.specs.Checks.{Check, value, refused, Met}
 use Rattle.words.specs.Bytes.{recordWords}
 use Rattle.words.specs.declared.Record.{Record}
-use Rattle.words.proofs.Lists.{map-same, up-length}
+use Rattle.words.proofs.Lists.{map-same, up-length, entry-all}
 use Rattle.words.proofs.Tests.{true-equal}
 use Rattle.words.proofs.Checks.{if-met, if-unmet, value-exactly, refused-exactly}
 use Rattle.field.specs.Polynomial.{valueAt}
@@ -18,22 +18,24 @@ use Rattle.group.specs.Power.{pow}
 use Rattle.group.specs.Element.{isElement}
 use Rattle.group.specs.declared.Group.{Group}
 use Rattle.group.proofs.Elements.{generator-element, power-element}
-use Rattle.sharing.specs.Setting.{ProperSetting, settingIn, inRound, roundChecks, judged, judgedElse, members}
+use Rattle.sharing.specs.Setting.{ProperSetting, takesWhole, settingIn, inRound, withNumbers, roundFigures, roundChecks, judged, judgedElse, members}
 use Rattle.sharing.specs.Carried.{powersAt, Carries}
 use Rattle.sharing.specs.declared.Round.{Round}
 use Rattle.sharing.specs.declared.Setting.{Setting}
-use Rattle.sharing.proofs.Rounds.{round-proper, proper-in-round, judged-in, judged-else-in, judged-exactly}
+use Rattle.sharing.proofs.Rounds.{round-proper, proper-in-round, judged-in, judged-else-in, judged-exactly, member-word, element-word, exponent-word}
 use Rattle.sharing.proofs.Degree.{passed-product}
 use Rattle.sharing.proofs.Theorems.{carried-passes}
-use Rattle.records.specs.Layout.{isLineRecord, dealerOf, memberOf, roundOf, vOf, YOf, rOf, cOf, entry, recordOf}
+use Rattle.records.specs.Layout.{isLineRecord, dealerOf, memberOf, roundOf, vOf, YOf, rOf, cOf, memberRecord}
 use Rattle.records.specs.Keys.{isKey}
 use Rattle.words.proofs.Records.{laid-agrees}
-use Rattle.records.proofs.Members.{each-members, member-exactly, key-element, entry-all}
-use Rattle.records.proofs.Posted.{member-word, element-word, exponent-word, records-length, record-back}
+use Rattle.sharing.proofs.EachMember.{each-members, member-exactly}
+use Rattle.records.proofs.Posted.{records-length, record-back}
+use Rattle.records.proofs.ProperKeys.{key-element}
 use Rattle.challenge.proofs.Challenges.{challenge-low, check-polynomial}
 use Rattle.equality.specs.Equality.{announced}
 use Rattle.equality.proofs.Equal.{response-low, announced-back}
-use Rattle.dealing.specs.Dealing.{addressChecks, judgeSizeChecks, lineChecks, writtenV, writtenY, writtenC, writtenR, writtenLine, writtenDealing, writeDealingChecks, writeDealingIn, writeDealingOutcome, lentDealingIn, lentDealing, judgeDealingChecks, judgeDealingIn, judgeDealingOutcome, vIn, YIn, rIn, cIn, vsIn, recomputed}
+use Rattle.lines.specs.Lines.{addressChecks, lineChecks, vIn, YIn, rIn, cIn, vsIn}
+use Rattle.dealing.specs.Dealing.{judgeSizeChecks, writtenV, writtenY, writtenC, writtenR, writtenLine, writtenDealing, writeDealingChecks, writeDealingIn, writeDealingOutcome, lentDealingIn, lentDealing, judgeDealingChecks, judgeDealingIn, judgeDealingOutcome, recomputed}
 use Rattle.dealing.specs.Claims.{Line, DegreeEquation, AcceptedDealing, DealingComplete, WrittenForOtherRound, WrittenCarried, SameCommitments, LentDealing, LentDealingKept, DealingByRound}
 use Rattle.dealing.proofs.Entries.{challenge-same}
 use Rattle.dealing.proofs.Settled.{WritableDealing, writable}
@@ -95,7 +97,7 @@ module _ (S : Setting) (P : ProperSetting S) (word : S .round < 2 ^ 32) (d : ℕ
       (kind, (dealer, (member, (v, (Y, (r, (low, (word, tt))))))))
 
   module _ (i : ℕ) (h : 1 ≤ i) (l : i ≤ S .n) where
-    line-is : recordOf bytes i ≡ line i
+    line-is : memberRecord bytes i ≡ line i
     unfolding writtenDealing
     line-is = record-back line (S .n) i h l (line-words i h l)
 
@@ -185,9 +187,10 @@ module _ (S : Setting) (P : ProperSetting S) (word : S .round < 2 ^ 32) (d : ℕ
   refused-elsewhere round n whole =
       let some = P .n-positive in
       let F = posted-formed S d ys bytes (written-accepted .posted) in
+      let sizes = true-equal (length ys) (S .n) (length bytes) (32 * S .n) (F .keys-size) (F .size) in
       dealing-of-other-round (inRound round whole S) d ys bytes
-      (member-exactly (S .n) d .1 (F .dealer), (true-equal (length ys) (S .n) (length bytes) (32 * S .n) (F .keys-size) (F .size), tt))
-      (F .keys) (F .lines .0) 1 (omega arith) (omega arith) (λ e. n (sym e ∙ line-proper 1 (omega arith) (omega arith) .round))
+      (record { front = (member-exactly (S .n) d .1 (F .dealer), (sizes, tt)); keys = F .keys; form = F .lines .0 })
+      1 (omega arith) (omega arith) (λ e. n (sym e ∙ line-proper 1 (omega arith) (omega arith) .round))
 
   pub accepted : judgeDealingIn S d ys bytes ≡ value tt
   accepted = accepts-dealing S d ys bytes written-accepted
@@ -228,6 +231,51 @@ refused-kept T R checks new old k e =
     let cs = roundChecks T R ++ checks (settingIn T R) in
     if-unmet (new (settingIn T R)) old cs k (refused-exactly Unit cs tt k .0 e)
 
+-- what is written over a table and a round, and judged over them or in a round of other numbers
+module _ (T : List ℕ) (R : Round) (d : ℕ) (ys f ws out : List ℕ) (e : writeDealingOutcome T R d ys f ws (length out) ≡ value tt) where
+  abbrev within : Setting
+  within = settingIn T R
+
+  abbrev checks : Setting → List Check
+  checks S = writeDealingChecks S d ys f ws (length out)
+
+  settled : Met (roundChecks T R) × (writeDealingIn within d ys f ws (length out) ≡ value tt)
+  unfolding writeDealingOutcome writeDealingIn
+  settled = judged-exactly T R checks (λ S. tt) tt .0 e
+
+  lines-written : lentDealing T R d ys f ws out ≡ writtenDealing within d ys f ws
+  unfolding writeDealingIn lentDealing
+  lines-written =
+      judged-else-in T R checks (λ S. writtenDealing S d ys f ws) (settled .0) out
+      ∙ if-met (writtenDealing within d ys f ws) out (checks within) (value-exactly Unit (checks within) tt .0 (settled .1))
+
+  judged-lines : (Q : Round) → Met (roundChecks T Q)
+      → judgeDealingOutcome T Q d ys (lentDealing T R d ys f ws out) ≡ judgeDealingIn (settingIn T Q) d ys (writtenDealing within d ys f ws)
+  unfolding judgeDealingOutcome judgeDealingIn
+  judged-lines Q m =
+      judged-in T Q (λ S. judgeDealingChecks S d ys (lentDealing T R d ys f ws out)) (λ S. tt) m
+      ∙ ap (judgeDealingIn (settingIn T Q) d ys) lines-written
+
+  module _ (k : R .round < 2 ^ 32) where
+    abbrev proper : ProperSetting within
+    proper = round-proper T R (settled .0)
+
+    abbrev figures : WritableDealing within d ys f ws
+    figures = value-writable within d ys f ws (length out) (settled .1)
+
+    complete : judgeDealingOutcome T R d ys (lentDealing T R d ys f ws out) ≡ value tt
+    complete = judged-lines R (settled .0) ∙ accepted within proper k d ys f ws figures
+
+    for-other-round : (round first : ℕ) → (round ≡ R .round → ⊥)
+        → judgeDealingOutcome T (withNumbers round first R) d ys (lentDealing T R d ys f ws out) ≡ refused 17
+    unfolding roundChecks roundFigures
+    for-other-round round first n =
+        judged-lines (withNumbers round first R) (settled .0)
+        ∙ refused-elsewhere within proper k d ys f ws figures round n (takesWhole first round)
+
+    commitments-are : vsIn (R .n) (lentDealing T R d ys f ws out) ≡ powersAt (within .group) (within .group .g .0) f (members (R .n))
+    commitments-are = ap (vsIn (R .n)) lines-written ∙ carries within proper k d ys f ws figures .powers
+
 pub dealing-by-round : DealingByRound
 unfolding judgeDealingOutcome judgeDealingIn writeDealingOutcome writeDealingIn lentDealing lentDealingIn
 dealing-by-round T R =
@@ -239,14 +287,10 @@ dealing-by-round T R =
       judged-in = λ m d ys b. judged-in T R (λ S. judgeDealingChecks S d ys b) (λ S. tt) m;
       written-in = λ m d ys f ws room. judged-in T R (λ S. writeDealingChecks S d ys f ws room) (λ S. tt) m;
       lent-in = λ m d ys f ws out. judged-else-in T R (λ S. writeDealingChecks S d ys f ws (length out)) (λ S. writtenDealing S d ys f ws) m out;
-      complete = complete;
+      complete = λ k d ys f ws out e. complete T R d ys f ws out e k;
+      for-other-round = λ k d ys f ws out e. for-other-round T R d ys f ws out e k;
+      of-other-round = λ m d ys b before i h l n.
+          judged-in T R (λ S. judgeDealingChecks S d ys b) (λ S. tt) m ∙ dealing-of-other-round (settingIn T R) d ys b before i h l n;
+      same-commitments = λ k d ys f ws out e round first l us other g.
+          commitments-are T R d ys f ws out e k ∙ sym (commitments-are T (withNumbers round first R) d ys f us other g l);
     }
-  where
-    complete : R .round < 2 ^ 32 → (d : ℕ) (ys f ws out : List ℕ) → writeDealingOutcome T R d ys f ws (length out) ≡ value tt
-        → judgeDealingOutcome T R d ys (lentDealing T R d ys f ws out) ≡ value tt
-    complete k d ys f ws out e =
-        let w = judged-exactly T R (λ S. writeDealingChecks S d ys f ws (length out)) (λ S. tt) tt .0 e in
-        let lent = judged-else-in T R (λ S. writeDealingChecks S d ys f ws (length out)) (λ S. writtenDealing S d ys f ws) (w .0) out in
-        judged-in T R (λ S. judgeDealingChecks S d ys (lentDealing T R d ys f ws out)) (λ S. tt) (w .0)
-        ∙ ap (judgeDealingIn (settingIn T R) d ys) lent
-        ∙ lent-dealing (settingIn T R) (round-proper T R (w .0)) k d ys f ws out (w .1)

@@ -1,28 +1,26 @@
 -- A dealing as it is written, and as it is judged: definitions over a setting, and over a round, whose own checks come first.
-use mathlib.Core.Bool.{Bool, _&&_}
+use mathlib.Core.Bool.{_&&_}
 use mathlib.Core.List.{List, [], _∷_, _++_}
 use Prim.Native.Nat.{ℕ, _*_}
 use lib.ListN.{length}
 use lib.Dec.{eqb}
-use Rattle.words.specs.Lists.{map, all}
+use Rattle.words.specs.Lists.{map, all, entry}
+use Rattle.words.specs.Numbers.{badLength, noElement, noExponent, degreeFails, proofFails}
 use Rattle.words.specs.Checks.{Check, _unless_, Outcome, outcome, ifMet}
 use Rattle.words.specs.declared.Record.{Record}
 use Rattle.field.specs.Polynomial.{valueAt}
 use Rattle.group.specs.Power.{pow}
 use Rattle.group.specs.Element.{isElement, isExponent}
 use Rattle.group.specs.declared.Group.{Group}
-use Rattle.sharing.specs.Setting.{judged, judgedElse, isMember, members}
+use Rattle.sharing.specs.Setting.{judged, judgedElse, members}
 use Rattle.sharing.specs.Answer.{degreeProduct}
 use Rattle.sharing.specs.declared.Round.{Round}
 use Rattle.sharing.specs.declared.Setting.{Setting}
-use Rattle.records.specs.Layout.{lineLayout, isLineRecord, isOfRound, dealerOf, memberOf, vOf, YOf, rOf, cOf, entry, recordOf, recordsBytes}
+use Rattle.records.specs.Layout.{lineLayout, recordsBytes}
 use Rattle.records.specs.Keys.{keyChecks}
 use Rattle.challenge.specs.Message.{challengeOf, dealingMessage, checkPolynomial}
 use Rattle.equality.specs.Equality.{announced, response}
-
--- the dealer d is a member: the first stage of writing and of judging
-unfoldable pub addressChecks : Setting → ℕ → List Check
-addressChecks S d = 8 unless isMember (S .n) d ∷ []
+use Rattle.lines.specs.Lines.{addressChecks, vIn, YIn, rIn, cIn, lineChecks}
 
 -- ---- written: from the keys ys, the polynomial f and the nonces ws
 unfoldable pub writtenV : Group → List ℕ → ℕ → ℕ
@@ -53,11 +51,11 @@ writtenDealing S d ys f ws = recordsBytes (writtenLine S d ys f ws (writtenC S d
 -- n keys, t coefficients, n nonces, and room for n lines
 unfoldable pub writeSizeChecks : Setting → List ℕ → List ℕ → List ℕ → ℕ → List Check
 writeSizeChecks S ys f ws room =
-    3 unless (eqb (length ys) (S .n) && (eqb (length f) (S .t) && (eqb (length ws) (S .n) && eqb room (32 * S .n)))) ∷ []
+    badLength unless (eqb (length ys) (S .n) && (eqb (length f) (S .t) && (eqb (length ws) (S .n) && eqb room (32 * S .n)))) ∷ []
 
 -- coefficients and nonces below q
 unfoldable pub secretChecks : Group → List ℕ → List ℕ → List Check
-secretChecks G f ws = 7 unless (all (isExponent G) f && all (isExponent G) ws) ∷ []
+secretChecks G f ws = noExponent unless (all (isExponent G) f && all (isExponent G) ws) ∷ []
 
 -- with room for so many bytes
 abbrev pub writeDealingChecks : Setting → ℕ → List ℕ → List ℕ → List ℕ → ℕ → List Check
@@ -77,45 +75,10 @@ lentDealingIn S d ys f ws out = ifMet (writeDealingChecks S d ys f ws (length ou
 unfoldable pub lentDealing : List ℕ → Round → ℕ → List ℕ → List ℕ → List ℕ → List ℕ → List ℕ
 lentDealing T R d ys f ws out = judgedElse T R (λ S. writeDealingChecks S d ys f ws (length out)) (λ S. writtenDealing S d ys f ws) out
 
--- ---- judged: the figures of member i in the lines b
-unfoldable pub vIn : List ℕ → ℕ → ℕ
-vIn b i = vOf (recordOf b i)
-
-unfoldable pub YIn : List ℕ → ℕ → ℕ
-YIn b i = YOf (recordOf b i)
-
-unfoldable pub rIn : List ℕ → ℕ → ℕ
-rIn b i = rOf (recordOf b i)
-
-unfoldable pub cIn : List ℕ → ℕ → ℕ
-cIn b i = cOf (recordOf b i)
-
--- the commitments
-unfoldable pub vsIn : ℕ → List ℕ → List ℕ
-vsIn n b = map (vIn b) (members n)
-
+-- ---- judged: before the figures
 -- n keys and n lines
 unfoldable pub judgeSizeChecks : Setting → List ℕ → List ℕ → List Check
-judgeSizeChecks S ys b = 3 unless (eqb (length ys) (S .n) && eqb (length b) (32 * S .n)) ∷ []
-
--- a record is a line of the dealer d for member i
-unfoldable pub isLineFor : ℕ → ℕ → Record → Bool
-isLineFor d i r = isLineRecord r && (eqb (dealerOf r) d && eqb (memberOf r) i)
-
--- the record of member i is a line of the dealer d for him
-abbrev pub isLineOf : ℕ → List ℕ → ℕ → Bool
-isLineOf d b i = isLineFor d i (recordOf b i)
-
--- the record of member i is of that round
-abbrev pub isLineOfRound : ℕ → List ℕ → ℕ → Bool
-isLineOfRound round b i = isOfRound round (recordOf b i)
-
--- all lines by their form, and then all by their round
-unfoldable pub lineChecks : Setting → ℕ → List ℕ → List Check
-lineChecks S d b =
-    4 unless all (isLineOf d b) (members (S .n))
-    ∷ 17 unless all (isLineOfRound (S .round) b) (members (S .n))
-    ∷ []
+judgeSizeChecks S ys b = badLength unless (eqb (length ys) (S .n) && eqb (length b) (32 * S .n)) ∷ []
 
 -- the stages before the figures
 unfoldable pub dealingFormChecks : Setting → ℕ → List ℕ → List ℕ → List Check
@@ -133,15 +96,15 @@ recomputed S d ys v Y r c =
 unfoldable pub rangeChecks : Setting → (ℕ → ℕ) → (ℕ → ℕ) → (ℕ → ℕ) → (ℕ → ℕ) → List Check
 rangeChecks S v Y r c =
     let is = members (S .n) in
-    6 unless (all (λ i. isElement (S .group) (v i)) is && all (λ i. isElement (S .group) (Y i)) is)
-    ∷ 7 unless (all (λ i. isExponent (S .group) (r i)) is && all (λ i. isExponent (S .group) (c i)) is)
+    noElement unless (all (λ i. isElement (S .group) (v i)) is && all (λ i. isElement (S .group) (Y i)) is)
+    ∷ noExponent unless (all (λ i. isExponent (S .group) (r i)) is && all (λ i. isExponent (S .group) (c i)) is)
     ∷ []
 
 -- the judge's own check polynomial passes, and every challenge is the recomputed one
 unfoldable pub equationChecks : Setting → ℕ → List ℕ → (ℕ → ℕ) → (ℕ → ℕ) → (ℕ → ℕ) → (ℕ → ℕ) → List Check
 equationChecks S d ys v Y r c =
-    9 unless eqb (degreeProduct S (map v (members (S .n))) (checkPolynomial S d v Y)) 1
-    ∷ 10 unless all (λ i. eqb (c i) (recomputed S d ys v Y r c)) (members (S .n))
+    degreeFails unless eqb (degreeProduct S (map v (members (S .n))) (checkPolynomial S d v Y)) 1
+    ∷ proofFails unless all (λ i. eqb (c i) (recomputed S d ys v Y r c)) (members (S .n))
     ∷ []
 
 abbrev pub figureChecks : Setting → ℕ → List ℕ → (ℕ → ℕ) → (ℕ → ℕ) → (ℕ → ℕ) → (ℕ → ℕ) → List Check

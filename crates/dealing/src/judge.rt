@@ -1,19 +1,18 @@
 // The judging of a dealing: the form of its lines, their figures, and the equations between them.
 ghost use mathlib.Core.Path.{_≡_};
+ghost use mathlib.Core.Bool.{_&&_};
 ghost use Prim.Native.Nat.{_*_, _≤_};
 ghost use lib.Dec.{eqb};
 ghost use lib.ListN.{length};
-ghost use Rattle.words.specs.Lists.{map, all};
-ghost use Rattle.words.specs.Checks.{refusal, outcome};
-ghost use Rattle.words.specs.Bytes.{recordIn};
+ghost use Rattle.words.specs.Lists.{map, all, entry};
+ghost use Rattle.words.specs.Checks.{refusal, outcome, checkOutcomeOf};
 ghost use Rattle.sharing.specs.Setting.{ProperSetting, members};
-ghost use Rattle.sharing.specs.Answer.{checkOutcomeOf, degreeProduct};
-ghost use Rattle.records.specs.Layout.{entry};
+ghost use Rattle.sharing.specs.Answer.{degreeProduct};
 ghost use Rattle.challenge.specs.Message.{checkPolynomial};
-ghost use Rattle.dealing.specs.Dealing.{isLineFor, isLineOf, isLineOfRound, dealingFormChecks, recomputed, rangeChecks, lineFigureChecks};
+ghost use Rattle.lines.specs.Columns.{columnsOf};
+ghost use Rattle.dealing.specs.Dealing.{dealingFormChecks, recomputed, rangeChecks, lineFigureChecks};
 ghost use Rattle.dealing.specs.Dealing.{judgeDealingIn, judgeDealingOutcome};
-ghost use Rattle.dealing.specs.Columns.{columnsOf, columnChecks};
-use crate::Columns;
+ghost use Rattle.dealing.specs.Columns.{columnChecks};
 use crate::LinesAnswer;
 use challenge::check_polynomial;
 use challenge::dealing_challenge;
@@ -22,120 +21,43 @@ use group::Element;
 use group::Exponent;
 use group::all_elements;
 use group::all_exponents;
-use records::is_line_record;
-use records::is_of_round;
+use lines::Columns;
+use lines::lines_refusal;
+use lines::read_lines;
 use records::keys_refusal;
-use sharing::CheckAnswer;
 use sharing::Round;
 use sharing::Setting;
 use sharing::SettingAnswer;
 use sharing::degree_passes;
 use sharing::is_member;
-use sharing::passed_if;
 use sharing::setting_of;
-use words::read_record;
-use words::record_at;
+use words::CheckAnswer;
+use words::passed_if;
+use words::refusal;
 
-// Whether a record is a line of the dealer d for member i. Internal: callers ensure that the bytes are one record.
-fn is_line_for(d: u32, i: u32, line: &[u8]) -> bool
-    requires { ⌜ length (now line) ≡ 32 ⌝ }
-    ensures { λ r. ⌜ r ≡ isLineFor d i (recordIn (now (line .entry))) ⌝ }
+// Whether there are n keys and n lines.
+fn sizes_fit(n: u32, ys: &[u32], lines: &[u8]) -> bool
+    ensures { λ r. ⌜ r ≡ eqb (length (now (ys .entry))) n && eqb (length (now (lines .entry))) (32 * n) ⌝ }
 {
-    let r = read_record(line);
-    if !is_line_record(r) {
-        return false;
-    }
-    if r.w1 != d {
-        return false;
-    }
-    r.w2 == i
-}
-
-// Whether each member's record is a line of the dealer d for him. Internal: callers ensure that the bytes are n records.
-fn all_lines(d: u32, lines: &[u8], n: u32) -> bool
-    requires { ⌜ length (now lines) ≡ 32 * n ⌝ }
-    ensures { λ r. ⌜ r ≡ all (isLineOf d (now (lines .entry))) (members n) ⌝ }
-{
-    let mut i = 0;
-    while i < n {
-        let from = 32 * i as usize;
-        let to = from + 32;
-        if !is_line_for(d, i + 1, &lines[from..to]) {
-            return false;
-        }
-        i += 1;
-    }
-    true
-}
-
-// Whether each member's record is of that round. Internal: callers ensure that the bytes are n records.
-fn all_of_round(round: u32, lines: &[u8], n: u32) -> bool
-    requires { ⌜ length (now lines) ≡ 32 * n ⌝ }
-    ensures { λ r. ⌜ r ≡ all (isLineOfRound round (now (lines .entry))) (members n) ⌝ }
-{
-    let mut i = 0;
-    while i < n {
-        if !is_of_round(round, record_at(lines, i as usize)) {
-            return false;
-        }
-        i += 1;
-    }
-    true
+    let k = n as usize;
+    ys.len() == k && lines.len() == 32 * k
 }
 
 // The first number refused before the figures, of 8, 3, 6 and 22 for keys, 4 and 17; 0 where none is.
 fn form_refusal(s: Setting, d: u32, ys: &[u32], lines: &[u8]) -> u32
     ensures { λ r. ⌜ r ≡ refusal (dealingFormChecks s d (now (ys .entry)) (now (lines .entry))) ⌝ }
 {
-    let n = s.n as usize;
     if !is_member(s.n, d) {
-        return 8;
+        return refusal::NO_MEMBER;
     }
-    if ys.len() != n {
-        return 3;
-    }
-    if lines.len() != 32 * n {
-        return 3;
+    if !sizes_fit(s.n, ys, lines) {
+        return refusal::BAD_LENGTH;
     }
     let k = keys_refusal(s.group, ys);
     if k != 0 {
         return k;
     }
-    if !all_lines(d, lines, s.n) {
-        return 4;
-    }
-    if !all_of_round(s.round, lines, s.n) {
-        return 17;
-    }
-    0
-}
-
-// The figures of n lines. Internal: callers ensure that the bytes are n records, at most 31.
-fn read_lines(lines: &[u8], n: usize) -> Columns
-    requires { ⌜ (n ≤ 31) × (length (now lines) ≡ 32 * n) ⌝ }
-    ensures { λ r. ⌜ r ≡ columnsOf n (now (lines .entry)) ⌝ }
-{
-    let mut vs = [0u32; 31];
-    let mut encrypted = [0u32; 31];
-    let mut rs = [0u32; 31];
-    let mut cs = [0u32; 31];
-    let mut i = 0;
-    while i < n {
-        let from = 32 * i;
-        let to = from + 32;
-        let line = read_record(&lines[from..to]);
-        vs[i] = line.w3;
-        encrypted[i] = line.w4;
-        rs[i] = line.w5;
-        cs[i] = line.w6;
-        i += 1;
-    }
-    Columns {
-        vs: vs,
-        encrypted: encrypted,
-        rs: rs,
-        cs: cs,
-    }
+    lines_refusal(s, d, lines)
 }
 
 // Whether the judge's own check polynomial passes the commitments vs.
@@ -197,17 +119,11 @@ fn range_refusal(
     ensures { λ r. ⌜ r ≡ refusal (rangeChecks s (entry vs) (entry encrypted) (entry rs) (entry cs)) ⌝ }
 {
     let n = s.n as usize;
-    if !all_elements(s.group, &vs[..n]) {
-        return 6;
+    if !all_elements(s.group, &vs[..n]) || !all_elements(s.group, &encrypted[..n]) {
+        return refusal::NO_ELEMENT;
     }
-    if !all_elements(s.group, &encrypted[..n]) {
-        return 6;
-    }
-    if !all_exponents(s.group, &rs[..n]) {
-        return 7;
-    }
-    if !all_exponents(s.group, &cs[..n]) {
-        return 7;
+    if !all_exponents(s.group, &rs[..n]) || !all_exponents(s.group, &cs[..n]) {
+        return refusal::NO_EXPONENT;
     }
     0
 }
@@ -226,10 +142,10 @@ fn judge_figures(s: Setting, d: u32, ys: &[u32], figures: Columns) -> CheckAnswe
         return CheckAnswer::Refused(k);
     }
     if !own_check_passes(s, d, vs, encrypted) {
-        return CheckAnswer::Refused(9);
+        return CheckAnswer::Refused(refusal::DEGREE_FAILS);
     }
     let c = recomputed(s, d, ys, figures);
-    passed_if(all_equal(c, cs, s.n as usize), 10)
+    passed_if(all_equal(c, cs, s.n as usize), refusal::PROOF_FAILS)
 }
 
 // Judges the lines of the dealer d by their figures, which are read once and handed back: 6 for a v or Y, 7, 9 and 10.

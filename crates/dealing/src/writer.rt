@@ -4,13 +4,11 @@ ghost use mathlib.Core.Bool.{_&&_};
 ghost use Prim.Native.Nat.{_*_, _<_, _≤_};
 ghost use lib.Dec.{eqb};
 ghost use lib.ListN.{length};
-ghost use Rattle.words.specs.Lists.{Below, map, filled};
-ghost use Rattle.words.specs.Checks.{refusal};
+ghost use Rattle.words.specs.Lists.{Below, map, filled, entry};
+ghost use Rattle.words.specs.Checks.{refusal, checkOutcomeOf};
 ghost use Rattle.field.specs.Polynomial.{valueAt};
 ghost use Rattle.group.specs.Power.{pow};
 ghost use Rattle.sharing.specs.Setting.{ProperSetting, members};
-ghost use Rattle.sharing.specs.Answer.{checkOutcomeOf};
-ghost use Rattle.records.specs.Layout.{entry, recordsBytes, lineLayout};
 ghost use Rattle.equality.specs.Equality.{response};
 ghost use Rattle.dealing.specs.Dealing.{writtenDealing, writeDealingChecks, writeDealingIn, writeDealingOutcome, lentDealingIn, lentDealing};
 use challenge::dealing_challenge;
@@ -19,15 +17,15 @@ use group::Element;
 use group::Exponent;
 use group::Group;
 use group::all_exponents;
+use lines::put_lines;
 use records::keys_refusal;
-use records::line_record;
-use sharing::CheckAnswer;
 use sharing::Round;
 use sharing::Setting;
 use sharing::SettingAnswer;
 use sharing::is_member;
 use sharing::setting_of;
-use words::write_record;
+use words::CheckAnswer;
+use words::refusal;
 
 // The value of the polynomial f at each member, and 0 behind them.
 // Internal: callers ensure that q is not 0 and that n is at most 31.
@@ -59,40 +57,19 @@ fn raised(gr: Group, bases: &[u32], xs: &[u32], n: usize) -> [u32; 31]
     rs
 }
 
-// Writes the line of each member under the challenge c, from v, Y, the polynomial's value x and the nonce w of each.
-// Internal: callers ensure nonces below q, at most 31, and just the room for the lines.
-fn put_lines(
-    s: Setting,
-    d: u32,
-    vs: &[u32; 31],
-    encrypted: &[u32; 31],
-    xs: &[u32; 31],
-    ws: &[u32],
-    c: Exponent,
-    out: &mut [u8],
-)
-    requires { ⌜ (length (now ws) ≤ 31) × (Below (s .group .q) (now ws)) × (length (now out) ≡ 32 * length (now ws)) ⌝ }
-    ensures { λ _. ⌜ now (out .exit) ≡ recordsBytes
-        (λ i. lineLayout d i (entry (now (vs .entry)) i) (entry (now (encrypted .entry)) i) (response (s .group) (entry (now (ws .entry)) i) (c .0) (entry (now (xs .entry)) i)) (c .0) (s .round))
-        (members (length (now (ws .entry)))) ⌝ }
+// The response of each member to the challenge c, from the polynomial's value x and the nonce w of each, and 0 behind them.
+// Internal: callers ensure nonces below q, at most 31.
+fn responses(gr: Group, xs: &[u32; 31], ws: &[u32], c: Exponent) -> [u32; 31]
+    requires { ⌜ (length (now ws) ≤ 31) × (Below (gr .q) (now ws)) ⌝ }
+    ensures { λ r. ⌜ r ≡ filled 31 (map (λ i. response gr (entry (now (ws .entry)) i) (c .0) (entry (now (xs .entry)) i)) (members (length (now (ws .entry))))) ⌝ }
 {
+    let mut rs = [0u32; 31];
     let mut i = 0;
     while i < ws.len() {
-        let r = response(s.group, Exponent(ws[i]), c, Exponent(xs[i]));
-        let line = line_record(
-            d,
-            i as u32 + 1,
-            Element(vs[i]),
-            Element(encrypted[i]),
-            r,
-            c,
-            s.round,
-        );
-        let from = 32 * i;
-        let to = from + 32;
-        write_record(&mut out[from..to], line);
+        rs[i] = response(gr, Exponent(ws[i]), c, Exponent(xs[i])).0;
         i += 1;
     }
+    rs
 }
 
 // Writes the lines of a dealing: commitments and encrypted shares, and the announcements of the nonces for the challenge.
@@ -110,7 +87,8 @@ fn put_dealing(s: Setting, d: u32, ys: &[u32], f: &[u32], ws: &[u32], out: &mut 
     let a1s = raised(s.group, &gs, ws, n);
     let a2s = raised(s.group, ys, ws, n);
     let c = dealing_challenge(s, d, &vs, &encrypted, &a1s, &a2s);
-    put_lines(s, d, &vs, &encrypted, &xs, ws, c, out);
+    let rs = responses(s.group, &xs, ws, c);
+    put_lines(s.round, d, n, &vs, &encrypted, &rs, c, out);
 }
 
 // Whether there are n keys, t coefficients, n nonces and room for n lines.
@@ -135,20 +113,17 @@ fn write_refusal(s: Setting, d: u32, ys: &[u32], f: &[u32], ws: &[u32], room: us
     ensures { λ r. ⌜ r ≡ refusal (writeDealingChecks s d (now (ys .entry)) (now (f .entry)) (now (ws .entry)) room) ⌝ }
 {
     if !is_member(s.n, d) {
-        return 8;
+        return refusal::NO_MEMBER;
     }
     if !sizes_fit(s.n, s.t, ys, f, ws, room) {
-        return 3;
+        return refusal::BAD_LENGTH;
     }
     let k = keys_refusal(s.group, ys);
     if k != 0 {
         return k;
     }
-    if !all_exponents(s.group, f) {
-        return 7;
-    }
-    if !all_exponents(s.group, ws) {
-        return 7;
+    if !all_exponents(s.group, f) || !all_exponents(s.group, ws) {
+        return refusal::NO_EXPONENT;
     }
     0
 }

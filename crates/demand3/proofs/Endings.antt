@@ -18,8 +18,8 @@ use Rattle.words.proofs.Stages.{rest-outcome, front-outcome}
 use Rattle.group.specs.declared.Element.{Element}
 use Rattle.sharing.specs.Setting.{ProperSetting, members}
 use Rattle.sharing.specs.declared.Setting.{Setting}
-use Rattle.sums.specs.Sum.{productOf}
-use Rattle.dealing.specs.Dealing.{YIn}
+use Rattle.sharing.specs.Sum.{productOf}
+use Rattle.lines.specs.Lines.{YIn}
 use Rattle.share.specs.Share.{addedForm}
 use Rattle.board.specs.Search.{filter}
 use Rattle.board.specs.Board.{boardChecks}
@@ -27,7 +27,7 @@ use Rattle.board.proofs.Order.{Reached, reached}
 use Rattle.verdicts.specs.Shares.{Judges, recoveredFrom}
 use Rattle.verdicts.specs.Verdict.{isAccepted, secretBy, isStuck, verdictOn, verdictsOn}
 use Rattle.verdicts.specs.Added.{acceptedDealers, multiplied, addedBy}
-use Rattle.verdicts.specs.Draw.{countOne, countAccepted, anyStuck, secretValue, timesSecret, secretsProduct, endChecks, drawChecks, drawValue, drawOf, drawIn}
+use Rattle.verdicts.specs.Draw.{countOne, countAccepted, anyStuck, secretValue, timesSecret, secretsProduct, endChecks, drawChecks, drawValue, reachedDraw, drawIn}
 use Rattle.verdicts.specs.declared.Secret.the-variants.{Opened, Recovered, Stuck}
 use Rattle.verdicts.specs.declared.Verdict.{Verdict}
 use Rattle.verdicts.specs.declared.Verdict.the-variants.{None, Refused, Accepted}
@@ -41,8 +41,8 @@ unfolding drawIn
 refused-before J S b k u = sym (front-outcome (boardChecks S b) (drawChecks J S b) k u (drawValue J S b))
 
 -- ---- reached verdicts decide
-pub reached-draw : (J : Judges) (S : Setting) (b : List ℕ) → Met (boardChecks S b) → drawIn J S b ≡ drawOf J S b
-unfolding drawIn drawOf
+pub reached-draw : (J : Judges) (S : Setting) (b : List ℕ) → Met (boardChecks S b) → drawIn J S b ≡ reachedDraw J S b
+unfolding drawIn reachedDraw
 reached-draw J S b m = sym (rest-outcome (boardChecks S b) (drawChecks J S b) m (drawValue J S b))
 
 -- ---- folds over the verdicts
@@ -143,7 +143,7 @@ module _ (J : Judges) (S : Setting) (P : ProperSetting S) (b : List ℕ) (m : Me
   -- by whether a dealing is stuck
   draw-is : {x : Bool} → anyStuck verdicts ≡ x
       → drawIn J S b ≡ outcome (endChecks (S .t) (countAccepted verdicts) x (length (addedBy J S b))) (pick x (byAdded J S b) (bySecrets J S b))
-  unfolding drawOf
+  unfolding reachedDraw
   draw-is e =
       reached-draw J S b m
       ∙ (λ j. outcome (endChecks (S .t) (countAccepted verdicts) (e j) (length (addedBy J S b)))

@@ -18,15 +18,15 @@ use Rattle.group.specs.declared.Group.{Group}
 use Rattle.group.specs.Element.{isElement}
 use Rattle.group.proofs.Elements.{true-exponent, power-element}
 use Rattle.sharing.specs.Setting.{ProperSetting}
-use Rattle.sharing.specs.Carried.{powersAt, TrueShares}
+use Rattle.sharing.specs.Carried.{Polynomial, powersAt, TrueShares}
 use Rattle.sharing.specs.declared.Setting.{Setting}
+use Rattle.sharing.specs.Sum.{productOf, sumOf}
 use Rattle.sharing.proofs.Theorems.{quorum-recovers}
-use Rattle.sums.specs.Sum.{productOf, sumOf}
-use Rattle.sums.proofs.Sums.{sum-value}
-use Rattle.records.specs.Layout.{entry}
+use Rattle.sharing.proofs.EachMember.{member-exactly}
+use Rattle.sharing.proofs.Sums.{sum-value}
 use Rattle.records.specs.Keys.{isSecretKey}
-use Rattle.records.proofs.Members.{member-exactly}
-use Rattle.dealing.specs.Dealing.{writtenY, writtenDealing, writeDealingIn, vsIn}
+use Rattle.lines.specs.Lines.{vsIn}
+use Rattle.dealing.specs.Dealing.{writtenY, writtenDealing, writeDealingIn}
 use Rattle.dealing.proofs.Settled.{WritableDealing}
 use Rattle.dealing.proofs.Written.{value-writable, Y-is, line-proper, carries}
 use Rattle.share.specs.declared.ShareForm.{ShareForm}
@@ -36,21 +36,23 @@ use Rattle.share.proofs.Shares.{share-complete}
 use Rattle.demand3.specs.Claims.{powerOfH}
 use Rattle.demand3.specs.Honest.{HoldsKey, lineY, linesY, LineShareAccepted, WrittenRecovered, AddedShareAccepted}
 
--- ---- in any form, a member who holds his secret key writes a share of an element, and it is accepted
-module _ (S : Setting) (P : ProperSetting S) (word : S .round < 2 ^ 32) (F : ShareForm) (D : isDealer (S .n) F ≡ true) (kind : F .kind < 2 ^ 32) (ys : List ℕ) (i : ℕ) (h : 1 ≤ i) (l : i ≤ S .n) (x : ℕ)
-    (K : HoldsKey (S .group) ys i x) (Y w : ℕ) (e : isElement (S .group) Y ≡ true) (v : w < S .group .q) where
-  share-written : writeShareIn S F i Y x w 32 ≡ value tt
+-- ---- in any form, a member writes a share of an element with a secret key, and it is accepted with its key
+module _ (S : Setting) (P : ProperSetting S) (word : S .round < 2 ^ 32) (F : ShareForm) (D : isDealer (S .n) F ≡ true) (kind : F .kind < 2 ^ 32)
+    (i : ℕ) (h : 1 ≤ i) (l : i ≤ S .n) (x : ℕ) (some : 1 ≤ x) (low : x < S .group .q) (Y w : ℕ) (e : isElement (S .group) Y ≡ true)
+    (v : w < S .group .q) where
+  pub share-written : writeShareIn S F i Y x w 32 ≡ value tt
   unfolding writeShareIn writeShareChecks membersChecks isSecretKey
   share-written =
       let G = S .group in
       let eight = true-and (isDealer (S .n) F) _ D (member-exactly (S .n) i .1 (h, l)) in
-      let secret = true-and (leb 1 x) _ (le-leb 1 x (K .some)) (lt-ltb x (G .q) (K .low)) in
+      let secret = true-and (leb 1 x) _ (le-leb 1 x some) (lt-ltb x (G .q) low) in
       let seven = true-and (isSecretKey G x) _ secret (true-exponent G w v) in
       value-exactly Unit (writeShareChecks S F i Y x w 32) tt .1 (eight, (refl, (e, (seven, tt))))
 
-  share-judged : {Z : ℕ} → shareOf (S .group) Y x ≡ Z → judgeShareIn S F i (entry ys i) Y (writtenShare S F i Y x w) ≡ value (record { 0 = Z })
-  share-judged z =
-      ap (λ (y : ℕ). judgeShareIn S F i y Y (writtenShare S F i Y x w)) (K .key)
+  share-judged : {y Z : ℕ} → y ≡ keyOf (S .group) x → shareOf (S .group) Y x ≡ Z
+      → judgeShareIn S F i y Y (writtenShare S F i Y x w) ≡ value (record { 0 = Z })
+  share-judged k z =
+      ap (λ (y : ℕ). judgeShareIn S F i y Y (writtenShare S F i Y x w)) k
       ∙ share-complete S P word F kind i Y x w share-written
       ∙ ap (λ (Z : ℕ). value (record { 0 = Z })) z
 
@@ -86,8 +88,8 @@ line-share-accepted S P k d ys f ws e i x w h l K v =
     let D = member-exactly (S .n) d .1 (W .dealer) in
     let Y : ℕ = lineY S d ys f ws i in
     let z = line-proper S P k d ys f ws W i h l .Y-element in (
-      share-written S P k (openedForm d) D (omega arith) ys i h l x K Y w z v,
-      share-judged S P k (openedForm d) D (omega arith) ys i h l x K Y w z v (share-is S P k d ys f ws W i h l x K),
+      share-written S P k (openedForm d) D (omega arith) i h l x (K .some) (K .low) Y w z v,
+      share-judged S P k (openedForm d) D (omega arith) i h l x (K .some) (K .low) Y w z v (K .key) (share-is S P k d ys f ws W i h l x K),
     )
 
 pub written-recovered : WrittenRecovered
@@ -97,6 +99,15 @@ written-recovered S P k d ys f ws e x ms Q h =
     (shares-true S P k d ys f ws W x ms (Q .within) h) .0
 
 -- ---- the dealings of a list: the product of a member's Y is his key to the sum's value
+pub product-power : (S : Setting) → ProperSetting S → (y : ℕ) → isElement (S .group) y ≡ true
+    → (ds : List ℕ) (f : ℕ → List ℕ) (Y : ℕ → ℕ) (i : ℕ)
+    → All (λ d. Polynomial S (f d) × (Y d ≡ pow (S .group .p) y (valueAt (S .group .q) (f d) i))) ds
+    → productOf (S .group .p) (map Y ds) ≡ pow (S .group .p) y (valueAt (S .group .q) (sumOf S (map f ds)) i)
+product-power S P y e ds f Y i a =
+    let G = S .group in
+    ap (productOf (G .p)) (map-same Y (λ d. pow (G .p) y (valueAt (G .q) (f d) i)) ds (All-to ds (λ d s. s .1) a))
+    ∙ sym (sum-value S P y e ds f (All-to ds (λ d s. s .0) a) i)
+
 module _ (S : Setting) (P : ProperSetting S) (word : S .round < 2 ^ 32) (ds ys : List ℕ) (f ws : ℕ → List ℕ)
     (W : All (λ d. writeDealingIn S d ys (f d) (ws d) (32 * S .n) ≡ value tt) ds) (i : ℕ) (h : 1 ≤ i) (l : i ≤ S .n) (x : ℕ) (K : HoldsKey (S .group) ys i x) where
   abbrev sumAt : ℕ
@@ -108,13 +119,12 @@ module _ (S : Setting) (P : ProperSetting S) (word : S .round < 2 ^ 32) (ds ys :
 
   linesY-is : linesY S ds ys f ws i ≡ pow (S .group .p) (keyOf (S .group) x) sumAt
   linesY-is =
-      let G = S .group in
-      ap (productOf (G .p))
-      (map-same (λ d. lineY S d ys (f d) (ws d) i) (λ d. pow (G .p) (keyOf G x) (valueAt (G .q) (f d) i)) ds
-      (All-to ds (λ d e. Y-power S P word d ys (f d) (ws d) (value-writable S d ys (f d) (ws d) _ e) i h l x K) W))
-      ∙ sym
-      (sum-value S P (keyOf G x) key-element ds f
-      (All-to ds (λ d e. carries S P word d ys (f d) (ws d) (value-writable S d ys (f d) (ws d) _ e) .polynomial) W) i)
+      product-power S P (keyOf (S .group) x) key-element ds f (λ d. lineY S d ys (f d) (ws d) i) i
+      (All-to ds
+      (λ d e.
+      let W = value-writable S d ys (f d) (ws d) _ e in
+      (carries S P word d ys (f d) (ws d) W .polynomial, Y-power S P word d ys (f d) (ws d) W i h l x K))
+      W)
 
   linesY-element : isElement (S .group) (linesY S ds ys f ws i) ≡ true
   linesY-element =
@@ -129,6 +139,6 @@ unfolding isDealer
 added-share-accepted S P k ds ys f ws W i x w h l K v =
     let Y : ℕ = linesY S ds ys f ws i in
     let z = linesY-element S P k ds ys f ws W i h l x K in (
-      share-written S P k addedForm refl (omega arith) ys i h l x K Y w z v,
-      share-judged S P k addedForm refl (omega arith) ys i h l x K Y w z v (added-is S P k ds ys f ws W i h l x K),
+      share-written S P k addedForm refl (omega arith) i h l x (K .some) (K .low) Y w z v,
+      share-judged S P k addedForm refl (omega arith) i h l x (K .some) (K .low) Y w z v (K .key) (added-is S P k ds ys f ws W i h l x K),
     )

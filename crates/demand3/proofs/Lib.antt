@@ -1,10 +1,22 @@
--- Proofs of what specs/Claims.antt, specs/Added.antt, specs/Honest.antt, specs/Filed.antt, specs/Rules.antt and specs/Demand3.antt state.
+-- Proofs of what the files of specs/ state.
 pub mod Serving
 pub mod Sources
 pub mod VerdictCases
 pub mod Endings
 pub mod TwoBoards
+pub mod Front
+pub mod Found
+pub mod FrontVerdicts
+pub mod FrontDraw
+pub mod Printed
 pub mod Honest
+pub mod Counted
+pub mod Complete
+pub mod WrittenBoards
+pub mod SameJudges
+pub mod Rounds
+pub mod DistinctKeys
 pub mod Filed
 pub mod Rules
+pub mod Elements
 pub mod Demand3

@@ -23,7 +23,8 @@ use Rattle.sharing.proofs.Theorems.{carried-passes}
 use Rattle.records.specs.Layout.{ZOf, shareC, shareR}
 use Rattle.challenge.specs.Message.{checkPolynomial}
 use Rattle.challenge.proofs.Challenges.{check-polynomial}
-use Rattle.dealing.specs.Dealing.{addressChecks, judgeSizeChecks, lineChecks, vIn, YIn, rIn, cIn, vsIn, recomputed, dealingFormChecks, rangeChecks, equationChecks, judgeDealingIn}
+use Rattle.lines.specs.Lines.{addressChecks, lineChecks, vIn, YIn, rIn, cIn, vsIn}
+use Rattle.dealing.specs.Dealing.{judgeSizeChecks, recomputed, dealingFormChecks, rangeChecks, equationChecks, judgeDealingIn}
 use Rattle.share.specs.Share.{membersChecks, shareAdmissionChecks, shareRecomputed, shareFigureChecks, judgeShareIn}
 use Rattle.share.specs.declared.ShareForm.{ShareForm}
 use Rattle.board.specs.Board.{oneRecordChecks, recordChecks, lengthChecks, formChecks, boardKeyChecks, boardChecks, linesChecks}
@@ -73,7 +74,7 @@ module _ (S : Setting) (whole : Bool) where
         let vs = vsIn (S .n) b in
         let ds = checkPolynomial T d (vIn b) (YIn b) in
         let P' = proper-in-round (S .round) whole P in
-        let K' : Carries T f vs = carries-in-round (S .round) (S .whole) K in
+        let K' : Carries T f vs = carries-in-round (S .round) (S .«whole_digest») K in
         let nine = passed-product T vs ds (carried-passes T P' f vs K' .1 ds (check-polynomial T P' d (vIn b) (YIn b))) in
         by-equations ∙ pick-true (eqb (degreeProduct T vs ds) 1) _ (refused 9) (eq-eqb _ 1 nine)
 

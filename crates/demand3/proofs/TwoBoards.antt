@@ -2,10 +2,10 @@
 -- is that value, and the t lowest members with accepted shares are a quorum; or true added shares recover h to the value at 0 of the
 -- polynomials' sum, which is the product of the secrets. The value at 0 is the commitments' alone.
 use mathlib.Core.Path.{_≡_, refl, sym, ap, _∙_, subst}
-use mathlib.Core.Bool.{true}
+use mathlib.Core.Bool.{Bool, true}
 use mathlib.Core.List.{List}
 use mathlib.Core.Logic.{inl, inr, ⊎-elim}
-use Prim.Native.Nat.{ℕ, _≤_}
+use Prim.Native.Nat.{ℕ, _≤_, _<_}
 use native.Mathlib.Omega.{arith}
 use lib.ListN.{length, take}
 use Rattle.words.specs.Lists.{All, map}
@@ -13,18 +13,17 @@ use Rattle.words.specs.Checks.{value, Met}
 use Rattle.words.specs.Bytes.{recordAt}
 use Rattle.words.proofs.Lists.{All-to, map-same}
 use Rattle.words.proofs.Stages.{front-outcome}
-use Rattle.group.specs.Table.{groupsOf, groupOf}
-use Rattle.sharing.specs.Setting.{ProperSetting, takesWhole, settingIn, inRound, withNumbers, roundFigures, roundChecks, judged, members}
+use Rattle.sharing.specs.Setting.{ProperSetting, settingIn, renumbered, roundChecks, judged, members}
 use Rattle.sharing.specs.Carried.{Carries, secretOf}
 use Rattle.sharing.specs.declared.Round.{Round}
 use Rattle.sharing.specs.declared.Setting.{Setting}
-use Rattle.sharing.proofs.Rounds.{round-proper, proper-in-round, carries-in-round, judged-in}
+use Rattle.sharing.specs.Sum.{productOf}
+use Rattle.sharing.proofs.Rounds.{round-proper, of-one-group, renumbered-proper, renumbered-carries, judged-in}
 use Rattle.sharing.proofs.Theorems.{opening-exactly, secret-of-commitments}
-use Rattle.sums.specs.Sum.{productOf}
-use Rattle.sums.proofs.Sums.{sum-carries, sum-secret}
+use Rattle.sharing.proofs.EachMember.{each-members}
+use Rattle.sharing.proofs.Sums.{sum-carries, sum-secret}
 use Rattle.records.specs.Layout.{uOf}
-use Rattle.records.proofs.Members.{each-members}
-use Rattle.dealing.specs.Dealing.{vIn, vsIn, YIn}
+use Rattle.lines.specs.Lines.{vIn, vsIn, YIn}
 use Rattle.share.specs.Share.{openedForm, addedForm}
 use Rattle.board.specs.Board.{linesOf}
 use Rattle.board.proofs.Searches.{filter-all, filter-same}
@@ -32,9 +31,9 @@ use Rattle.board.proofs.Order.{Reached, reached}
 use Rattle.verdicts.specs.Shares.{Judges, judges, recoveredFrom}
 use Rattle.verdicts.specs.Verdict.{isAccepted, commitmentsOf, encryptedOf, sharesBy, secretBy}
 use Rattle.verdicts.specs.Added.{acceptedDealers, multiplied, addedBy}
-use Rattle.verdicts.specs.Draw.{secretValue, boardDrawChecks, drawValue, drawIn, drawOn}
+use Rattle.verdicts.specs.Draw.{secretValue, boardDrawChecks, drawValue, drawIn, drawOutcome}
 use Rattle.verdicts.specs.declared.Secret.the-variants.{Stuck}
-use Rattle.demand3.specs.Claims.{powerOfH, SomeStuck, Recoverable, AllRecoverable, secretsOf, sumOn, AllCarried, AddedTrue, EitherTrue, Asked, TwoBoards, SameDraw, SameDrawAcross, DrawByRound}
+use Rattle.demand3.specs.Claims.{powerOfH, SomeStuck, Recoverable, AllRecoverable, secretsOf, sumOn, AllCarried, AddedTrue, EitherTrue, Asked, TwoBoards, SameDraw, DrawByRound}
 use Rattle.demand3.specs.Added.{SumCarriesBoard, AddedDraw, SameDrawEither}
 use Rattle.demand3.proofs.Serving.{serving, serving-shares, serving-recover}
 use Rattle.demand3.proofs.Sources.{Source, opened, recovers, stuck, source-of, stuck-exactly}
@@ -118,73 +117,60 @@ module _ (J : Judges) (S : Setting) (P : ProperSetting S) (b : List ℕ) (f : �
   ends-in : S .t ≤ length (acceptedDealers J S b) → drawIn J S b ≡ value (record { 0 = secretsOf J S b f })
   ends-in = ⊎-elim (secrets-end J S P b f) (added-ends J S P b f) A
 
--- ---- both boards, in the setting S and in T, which is S in the round of another number, under either rule
-either-across : (J : Judges) → SameDrawAcross EitherTrue J
-either-across J S P round whole b c f₁ f₂ A C M l = (
-  ends-in J S P b f₁ A l,
-  ends-in J T P' c f₂ C (subst (λ (ds : List ℕ). S .t ≤ length ds) same l) ∙ (λ j. value (record { 0 = sym other j })),
-)
-  where
-    T : Setting
-    T = inRound round whole S
+-- ---- both boards, in the setting S and in T, which is S under other numbers and either rule
+module _ (J : Judges) (S : Setting) (P : ProperSetting S) (number round : ℕ) (whole : Bool) (low : number < 256) where
+  abbrev T : Setting
+  T = renumbered number round whole S
 
-    P' : ProperSetting T
-    P' = proper-in-round round whole P
+  either-renumbered : TwoBoards EitherTrue J S T (drawIn J S) (drawIn J T)
+  either-renumbered b c f₁ f₂ A C M l = (
+    ends-in J S P b f₁ A l,
+    ends-in J T P' c f₂ C (subst (λ (ds : List ℕ). S .t ≤ length ds) same l) ∙ (λ j. value (record { 0 = sym other j })),
+  )
+    where
+      P' : ProperSetting T
+      P' = renumbered-proper number round whole P low
 
-    same : acceptedDealers J S b ≡ acceptedDealers J T c
-    same =
-        filter-same (isAccepted J S b) (isAccepted J T c) (members (S .n))
-        (each-members (λ d. isAccepted J S b d ≡ isAccepted J T c d) (S .n) (M .dealers))
+      same : acceptedDealers J S b ≡ acceptedDealers J T c
+      same =
+          filter-same (isAccepted J S b) (isAccepted J T c) (members (S .n))
+          (each-members (λ d. isAccepted J S b d ≡ isAccepted J T c d) (S .n) (M .dealers))
 
-    secret : (d : ℕ) → 1 ≤ d → d ≤ S .n → isAccepted J S b d ≡ true → secretOf S (f₁ d) ≡ secretOf S (f₂ d)
-    secret d h u a =
-        secret-of-commitments S P (f₁ d) (f₂ d) (commitmentsOf S b d) (all-carried J S P b f₁ A d h u a)
-        (subst (Carries S (f₂ d)) (sym (M .commitments d h u a)) (carries-in-round round whole (all-carried J T P' c f₂ C d h u (sym (M .dealers d h u) ∙ a))))
+      secret : (d : ℕ) → 1 ≤ d → d ≤ S .n → isAccepted J S b d ≡ true → secretOf S (f₁ d) ≡ secretOf S (f₂ d)
+      secret d h u a =
+          secret-of-commitments S P (f₁ d) (f₂ d) (commitmentsOf S b d) (all-carried J S P b f₁ A d h u a)
+          (subst (Carries S (f₂ d)) (sym (M .commitments d h u a)) (renumbered-carries number round whole (all-carried J T P' c f₂ C d h u (sym (M .dealers d h u) ∙ a))))
 
-    other : secretsOf J S b f₁ ≡ secretsOf J T c f₂
-    other =
-        let maps = map-same (λ d. powerOfH (S .group) (secretOf S (f₁ d))) (λ d. powerOfH (S .group) (secretOf S (f₂ d))) (acceptedDealers J S b)
-        (All-to (acceptedDealers J S b) (λ d s. ap (powerOfH (S .group)) (secret d (s .0 .0) (s .0 .1) (s .1))) (accepted-within J S b)) in
-        ap (productOf (S .group .p)) (maps ∙ ap (map (λ d. powerOfH (S .group) (secretOf S (f₂ d)))) same)
+      other : secretsOf J S b f₁ ≡ secretsOf J T c f₂
+      other =
+          let maps = map-same (λ d. powerOfH (S .group) (secretOf S (f₁ d))) (λ d. powerOfH (S .group) (secretOf S (f₂ d))) (acceptedDealers J S b)
+          (All-to (acceptedDealers J S b) (λ d s. ap (powerOfH (S .group)) (secret d (s .0 .0) (s .0 .1) (s .1))) (accepted-within J S b)) in
+          ap (productOf (S .group .p)) (maps ∙ ap (map (λ d. powerOfH (S .group) (secretOf S (f₂ d)))) same)
+
+either : (J : Judges) → SameDraw EitherTrue J
+either J S T P Q E =
+    subst (λ (X : Setting). TwoBoards EitherTrue J S X (drawIn J S) (drawIn J X)) (of-one-group S T E)
+    (either-renumbered J S P (T .number) (T .round) (T .«whole_digest») (Q .number-byte))
 
 -- ---- what is asked of both, where it is at least that
 module _ {A : Asked} (to : (J : Judges) (S : Setting) (b : List ℕ) (f : ℕ → List ℕ) → A J S b f → EitherTrue J S b f) (J : Judges) where
-  across : SameDrawAcross A J
-  across S P round whole b c f₁ f₂ K L = either-across J S P round whole b c f₁ f₂ (to J S b f₁ K) (to J (inRound round whole S) c f₂ L)
+  one-group : SameDraw A J
+  one-group S T P Q E b c f₁ f₂ K L = either J S T P Q E b c f₁ f₂ (to J S b f₁ K) (to J T c f₂ L)
 
-  one-round : SameDraw A J
-  one-round S P = across S P (S .round) (S .whole)
-
-  draw-in : (T : List ℕ) (R : Round) → Met (roundChecks T R) → (b : List ℕ) → drawOn J T R b ≡ drawIn J (settingIn T R) b
-  unfolding drawOn drawIn
+  draw-in : (T : List ℕ) (R : Round) → Met (roundChecks T R) → (b : List ℕ) → drawOutcome J T R b ≡ drawIn J (settingIn T R) b
+  unfolding drawOutcome drawIn
   draw-in T R m b = judged-in T R (λ S. boardDrawChecks J S b) (λ S. drawValue J S b) m
 
-  over-rounds : (T : List ℕ) (R : Round) → Met (roundChecks T R) → (round first : ℕ)
-      → TwoBoards A J (settingIn T R) (settingIn T (withNumbers round first R)) (drawOn J T R) (drawOn J T (withNumbers round first R))
-  unfolding roundFigures roundChecks
-  over-rounds T R m round first b c f₁ f₂ K L M l =
-      let d = across (settingIn T R) (round-proper T R m) round (takesWhole first round) b c f₁ f₂ K L M l in
-      (draw-in T R m b ∙ d .0, draw-in T (withNumbers round first R) m c ∙ d .1)
-
-  over-tables : (T : List ℕ) (R : Round) → Met (roundChecks T R) → (T' : List ℕ) → Met (roundChecks T' R)
-      → groupOf (groupsOf T) (R .group) ≡ groupOf (groupsOf T') (R .group)
-      → TwoBoards A J (settingIn T R) (settingIn T' R) (drawOn J T R) (drawOn J T' R)
-  over-tables T R m T' m' e b c f₁ f₂ K L M l =
-      let S : Setting = settingIn T R in
-      let same : S ≡ settingIn T' R = λ j. record { group = e j; number = R .group; n = R .n; t = R .t; round = R .round; whole = S .whole } in
-      let d = subst (λ (X : Setting). TwoBoards A J S X (drawIn J S) (drawIn J X)) same (one-round S (round-proper T R m)) b c f₁ f₂ K L M l in
-      (draw-in T R m b ∙ d .0, draw-in T' R m' c ∙ d .1)
-
   by-round : DrawByRound A J
-  unfolding drawOn drawIn judged
+  unfolding drawOutcome drawIn judged
   by-round T R =
       record {
         refuses = λ b k u. sym (front-outcome (roundChecks T R) (boardDrawChecks J (settingIn T R) b) k u (drawValue J (settingIn T R) b));
         proper = round-proper T R;
         draw-in = draw-in T R;
-        same-draw = λ m. over-rounds T R m (R .round) (R .«first_new_round»);
-        same-draw-across = over-rounds T R;
-        same-draw-by-tables = over-tables T R;
+        same-draw = λ m T' R' m' E b c f₁ f₂ K L M l.
+            let d = one-group (settingIn T R) (settingIn T' R') (round-proper T R m) (round-proper T' R' m') E b c f₁ f₂ K L M l in
+            (draw-in T R m b ∙ d .0, draw-in T' R' m' c ∙ d .1);
       }
 
 -- ---- by separate secrets, as demand 3 has it, and by either
@@ -192,10 +178,7 @@ recoverable-either : (J : Judges) (S : Setting) (b : List ℕ) (f : ℕ → List
 recoverable-either J S b f A = inl A
 
 pub same-draw : (J : Judges) → SameDraw AllRecoverable J
-same-draw = one-round recoverable-either
-
-pub same-draw-across : (J : Judges) → SameDrawAcross AllRecoverable J
-same-draw-across = across recoverable-either
+same-draw = one-group recoverable-either
 
 pub draw-by-round : (J : Judges) → DrawByRound AllRecoverable J
 draw-by-round = by-round recoverable-either
@@ -203,4 +186,4 @@ draw-by-round = by-round recoverable-either
 pub same-draw-either : SameDrawEither
 same-draw-either =
     let same : (J : Judges) (S : Setting) (b : List ℕ) (f : ℕ → List ℕ) → EitherTrue J S b f → EitherTrue J S b f = λ J S b f A. A in
-    record { same-draw = one-round same judges; same-draw-across = across same judges; draw-by-round = by-round same judges }
+    record { same-draw = one-group same judges; draw-by-round = by-round same judges }

@@ -8,11 +8,11 @@ use Rattle.words.specs.Checks.{value}
 use Rattle.sharing.specs.Setting.{ProperSetting}
 use Rattle.sharing.specs.Carried.{Carries}
 use Rattle.sharing.specs.declared.Setting.{Setting}
-use Rattle.dealing.specs.Dealing.{vIn}
+use Rattle.lines.specs.Lines.{vIn}
 use Rattle.verdicts.specs.Shares.{Judges, judges}
 use Rattle.verdicts.specs.Added.{acceptedDealers, multiplied}
 use Rattle.verdicts.specs.Draw.{drawIn}
-use Rattle.demand3.specs.Claims.{sumOn, AllCarried, AddedTrue, EitherTrue, secretsOf, SameDraw, SameDrawAcross, DrawByRound}
+use Rattle.demand3.specs.Claims.{sumOn, AllCarried, AddedTrue, EitherTrue, secretsOf, SameDraw, DrawByRound}
 
 -- Where polynomials of degree below t carry the accepted dealings, their sum carries the commitments multiplied member by member.
 abbrev pub SumCarriesBoard : Type 0
@@ -27,9 +27,8 @@ AddedDraw =
     (J : Judges) (S : Setting) → ProperSetting S → (b : List ℕ) (f : ℕ → List ℕ) → AddedTrue J S b f
     → S .t ≤ length (acceptedDealers J S b) → drawIn J S b ≡ value (record { 0 = secretsOf J S b f })
 
--- Two boards as in demand 3, each ending by separate secrets or by true added shares, end in the same value: of one round, of two rounds
--- under either rule, and as the board judge answers over rounds.
+-- Two boards as in demand 3, each ending by separate secrets or by true added shares, end in the same value: in any two settings of one
+-- group, n and t, and as the board judge answers over tables and rounds.
 pub record SameDrawEither : Type 0 where
   pub same-draw : SameDraw EitherTrue judges
-  pub same-draw-across : SameDrawAcross EitherTrue judges
   pub draw-by-round : DrawByRound EitherTrue judges

@@ -1,7 +1,7 @@
 -- What is claimed of judged boards, in every proper setting: the rules of verdicts, how a board ends, and the last sentence of demand 3.
 -- DrawByRound reads this off for rounds, as the board judge answers.
 use mathlib.Core.Path.{_≡_}
-use mathlib.Core.Bool.{Bool, true}
+use mathlib.Core.Bool.{true}
 use mathlib.Core.List.{List}
 use mathlib.Core.Logic.{_⊎_, _↔_}
 use Prim.Native.Nat.{ℕ, _<_, _≤_}
@@ -11,22 +11,21 @@ use Rattle.words.specs.Checks.{Outcome, value, refused, Met, FirstUnmet}
 use Rattle.words.specs.Bytes.{recordsIn, recordAt}
 use Rattle.field.specs.Polynomial.{valueAt}
 use Rattle.group.specs.Power.{pow}
-use Rattle.group.specs.Table.{groupsOf, groupOf}
 use Rattle.group.specs.declared.Element.{Element}
 use Rattle.group.specs.declared.Group.{Group}
-use Rattle.sharing.specs.Setting.{ProperSetting, settingIn, inRound, withNumbers, roundChecks}
+use Rattle.sharing.specs.Setting.{ProperSetting, OneGroup, settingIn, roundChecks}
 use Rattle.sharing.specs.Answer.{openingIn}
 use Rattle.sharing.specs.Carried.{Carries, secretOf}
 use Rattle.sharing.specs.declared.Round.{Round}
 use Rattle.sharing.specs.declared.Setting.{Setting}
-use Rattle.sums.specs.Sum.{productOf, sumOf}
+use Rattle.sharing.specs.Sum.{productOf, sumOf}
 use Rattle.records.specs.Layout.{lineKind, openingKind, dealerOf, memberOf, uOf, ZOf}
 use Rattle.board.specs.Search.{Ascending}
 use Rattle.board.specs.Board.{boardChecks, lineCount}
 use Rattle.verdicts.specs.Shares.{Judges, recoveredFrom}
 use Rattle.verdicts.specs.Verdict.{dealingAnswer, isAccepted, commitmentsOf, isShareBy, sharesBy, secretBy, verdictOn, verdictsOn}
 use Rattle.verdicts.specs.Added.{acceptedDealers, addedBy}
-use Rattle.verdicts.specs.Draw.{countAccepted, secretValue, drawIn, drawOn}
+use Rattle.verdicts.specs.Draw.{countAccepted, secretValue, drawIn, drawOutcome}
 use Rattle.verdicts.specs.declared.Secret.{Secret}
 use Rattle.verdicts.specs.declared.Secret.the-variants.{Opened, Recovered, Stuck}
 use Rattle.verdicts.specs.declared.Verdict.the-variants.{None, Refused, Accepted}
@@ -166,32 +165,21 @@ TwoBoards A J S T draw₁ draw₂ =
     → S .t ≤ length (acceptedDealers J S b)
     → (draw₁ b ≡ value (record { 0 = secretsOf J S b f₁ })) × (draw₂ c ≡ value (record { 0 = secretsOf J S b f₁ }))
 
--- two boards of one round, in every proper setting; nothing is asked of the judges
+-- in every two proper settings of one group, n and t: what is accepted decides the draw value, and neither the number that the group has in a
+-- table, nor the round, nor the rule by which challenges were made; nothing is asked of the judges
 abbrev pub SameDraw : Asked → Judges → Type 0
-SameDraw A J = (S : Setting) → ProperSetting S → TwoBoards A J S S (drawIn J S) (drawIn J S)
-
--- two boards of two rounds, each under either rule: what is accepted decides the draw value, and neither the round that it is accepted in
--- nor the rule by which its challenges were made
-abbrev pub SameDrawAcross : Asked → Judges → Type 0
-SameDrawAcross A J =
-    (S : Setting) → ProperSetting S → (round : ℕ) (whole : Bool)
-    → TwoBoards A J S (inRound round whole S) (drawIn J S) (drawIn J (inRound round whole S))
+SameDraw A J = (S T : Setting) → ProperSetting S → ProperSetting T → OneGroup S T → TwoBoards A J S T (drawIn J S) (drawIn J T)
 
 -- ---- over a table and a round
 -- what the board judge answers: it refuses a table or a round that their checks refuse by that number. The setting of any other is proper,
--- whichever group of an accepted table it has, and the board judge answers what it answers there, so F holds of its answers: for two boards
--- of the round, for two rounds whose numbers and first rounds under the new rule are any, and for two offices with tables of their own, where
--- both have the same group under the round's number
+-- whichever group of an accepted table it has, and the board judge answers what it answers there, so F holds of its answers: for two offices,
+-- each with a table and a round of its own, where the two rounds have one n and t, and each the same group under its number in its table
 pub record DrawOverRound (A : Asked) (J : Judges) (T : List ℕ) (R : Round) : Type 0 where
-  pub refuses : (b : List ℕ) (k : ℕ) → FirstUnmet k (roundChecks T R) → drawOn J T R b ≡ refused k
+  pub refuses : (b : List ℕ) (k : ℕ) → FirstUnmet k (roundChecks T R) → drawOutcome J T R b ≡ refused k
   pub proper : Met (roundChecks T R) → ProperSetting (settingIn T R)
-  pub draw-in : Met (roundChecks T R) → (b : List ℕ) → drawOn J T R b ≡ drawIn J (settingIn T R) b
-  pub same-draw : Met (roundChecks T R) → TwoBoards A J (settingIn T R) (settingIn T R) (drawOn J T R) (drawOn J T R)
-  pub same-draw-across : Met (roundChecks T R) → (round first : ℕ)
-      → TwoBoards A J (settingIn T R) (settingIn T (withNumbers round first R)) (drawOn J T R) (drawOn J T (withNumbers round first R))
-  pub same-draw-by-tables : Met (roundChecks T R) → (T' : List ℕ) → Met (roundChecks T' R)
-      → groupOf (groupsOf T) (R .group) ≡ groupOf (groupsOf T') (R .group)
-      → TwoBoards A J (settingIn T R) (settingIn T' R) (drawOn J T R) (drawOn J T' R)
+  pub draw-in : Met (roundChecks T R) → (b : List ℕ) → drawOutcome J T R b ≡ drawIn J (settingIn T R) b
+  pub same-draw : Met (roundChecks T R) → (T' : List ℕ) (R' : Round) → Met (roundChecks T' R') → OneGroup (settingIn T R) (settingIn T' R')
+      → TwoBoards A J (settingIn T R) (settingIn T' R') (drawOutcome J T R) (drawOutcome J T' R')
 
 abbrev pub DrawByRound : Asked → Judges → Type 0
 DrawByRound A J = (T : List ℕ) (R : Round) → DrawOverRound A J T R

@@ -1,37 +1,43 @@
--- 01 as it was before records had a round's number: word 7 is a spare word like the others, refused by 4, the messages have nothing of the
--- round in them, their digests give exponents by 8 bytes, the last kind is 4, two members may have one key, and a stuck dealing is the end.
--- In round 0 every board that was filed with zero in each word 7 and no record of kind 5 is judged as it was then, unless two of its keys
--- are equal.
+-- What filed boards were judged by: the scope paper, from which the base was built before any change was requested. There word 7 is a
+-- spare word like the others, refused by 4, the messages have nothing of the round in them, their digests give exponents by 8 bytes, the
+-- last kind is 4, two members may have one key, and a stuck dealing is the end. In round 0 every board that was filed with zero in each
+-- word 7 and no record of kind 5 is judged as it was then, unless two of its keys are equal.
 use mathlib.Core.Path.{_≡_}
 use mathlib.Core.Bool.{Bool, false, not, _&&_}
 use mathlib.Core.List.{List, [], _∷_, _++_}
 use Prim.Native.Nat.{ℕ, zero, suc, _-_, _%_, _<_}
-use lib.ListN.{take}
+use lib.ListN.{length, take}
 use lib.Dec.{leb, eqb}
 use Rattle.words.specs.Choice.{pick}
-use Rattle.words.specs.Lists.{Distinct, all, map, upFrom}
+use Rattle.words.specs.Lists.{Distinct, all, map, upFrom, entry}
+use Rattle.words.specs.Numbers.{badLength, badForm, outOfOrder, noElement, noExponent, noMember, degreeFails, proofFails, incomplete, stillStuck, tooFew}
 use Rattle.words.specs.Checks.{Check, _unless_, Outcome, refused, outcome, Met}
-use Rattle.words.specs.Bytes.{bigEndian, recordIn, recordsIn, recordAt}
+use Rattle.words.specs.Bytes.{bigEndian, recordIn, recordsIn, recordAt, agrees}
 use Rattle.words.specs.declared.Record.{Record}
 use Rattle.sha256.specs.Hash.{hash}
 use Rattle.group.specs.Element.{isElement, isExponent}
 use Rattle.group.specs.declared.Element.{Element}
-use Rattle.sharing.specs.Setting.{ProperSetting, isMember, members}
+use Rattle.sharing.specs.Setting.{ProperSetting, settingIn, roundChecks, isMember, members}
 use Rattle.sharing.specs.Answer.{degreeProduct}
+use Rattle.sharing.specs.declared.Round.{Round}
 use Rattle.sharing.specs.declared.Setting.{Setting}
-use Rattle.records.specs.Layout.{shareKind, addedKind, isKeyRecord, isLineRecord, isOpeningRecord, isShareRecord, dealerOf, memberOf, ZOf, shareC, shareR, entry, recordOf}
+use Rattle.records.specs.Layout.{shareKind, addedKind, isKeyRecord, isLineRecord, isOpeningRecord, isShareRecord, dealerOf, memberOf, ZOf, shareC, shareR, memberRecord}
+use Rattle.records.specs.Layout.{setLayout, setGroup, setN, setT, setRound, setFirst}
 use Rattle.records.specs.Claims.{KeyTwice, filedKeyChecks}
 use Rattle.challenge.specs.Message.{dealingTag, shareTag, coefficientTag, dealingFigures, shareFigures, coefficientFigures, roundlessMessage}
 use Rattle.equality.specs.Equality.{announced}
-use Rattle.dealing.specs.Dealing.{addressChecks, judgeSizeChecks, isLineOf, vIn, YIn, rIn, cIn, vsIn, rangeChecks}
+use Rattle.lines.specs.Lines.{addressChecks, isLineOf, vIn, YIn, rIn, cIn, vsIn}
+use Rattle.dealing.specs.Dealing.{judgeSizeChecks, rangeChecks}
 use Rattle.share.specs.Share.{openedForm, shareInputChecks, isShareFor}
-use Rattle.board.specs.Board.{inOrder, lengthChecks, hasKey, keysIn, boardChecks}
+use Rattle.board.specs.Board.{inOrder, lengthChecks, hasKey, keysIn}
 use Rattle.verdicts.specs.Shares.{Judges, judges}
 use Rattle.verdicts.specs.Verdict.{verdictOn, verdictsOn}
 use Rattle.verdicts.specs.Draw.{countAccepted, anyStuck, secretsProduct, drawIn}
 use Rattle.verdicts.specs.declared.Verdict.{Verdict}
+use Rattle.rulings.specs.Files.{setChecks}
+use Rattle.demand3.specs.Rounds.{RefusedOver, BoardJudge, drawBy, JudgedAs, AnsweredAs}
 
--- ---- the checks of 01
+-- ---- the checks of the scope paper
 -- a record of its table, whose last kind is 4
 abbrev pub filedShaped : ℕ → Record → Bool
 filedShaped n r =
@@ -43,18 +49,18 @@ filedShaped n r =
 abbrev pub filedRecordChecks : ℕ → List ℕ → ℕ → ℕ → List Check
 filedRecordChecks n b i zero = []
 filedRecordChecks n b i (suc m) =
-    4 unless filedShaped n (recordAt b i)
-    ∷ 4 unless eqb (recordAt b i .w7) 0
-    ∷ 5 unless inOrder b i
+    badForm unless filedShaped n (recordAt b i)
+    ∷ badForm unless eqb (recordAt b i .w7) 0
+    ∷ outOfOrder unless inOrder b i
     ∷ filedRecordChecks n b (suc i) m
 
 abbrev pub filedBoardChecks : Setting → List ℕ → List Check
 filedBoardChecks S b =
     (lengthChecks b ++ filedRecordChecks (S .n) b 0 (recordsIn b))
-    ++ (12 unless all (hasKey b) (members (S .n)) ∷ filedKeyChecks (S .group) (keysIn (S .n) b))
+    ++ (incomplete unless all (hasKey b) (members (S .n)) ∷ filedKeyChecks (S .group) (keysIn (S .n) b))
 
 abbrev pub filedLineChecks : ℕ → ℕ → List ℕ → List Check
-filedLineChecks n d b = 4 unless all (isLineOf d b) (members n) ∷ 4 unless all (λ i. eqb (recordOf b i .w7) 0) (members n) ∷ []
+filedLineChecks n d b = badForm unless all (isLineOf d b) (members n) ∷ badForm unless all (λ i. eqb (memberRecord b i .w7) 0) (members n) ∷ []
 
 -- the challenge of a message: the first 8 digest bytes as a number, modulo q
 abbrev pub filedExponent : Setting → List ℕ → ℕ
@@ -75,8 +81,8 @@ filedChallenge S d ys b =
 
 abbrev pub filedEquationChecks : Setting → ℕ → List ℕ → List ℕ → List Check
 filedEquationChecks S d ys b =
-    9 unless eqb (degreeProduct S (vsIn (S .n) b) (filedPolynomial S d b)) 1
-    ∷ 10 unless all (λ i. eqb (cIn b i) (filedChallenge S d ys b)) (members (S .n))
+    degreeFails unless eqb (degreeProduct S (vsIn (S .n) b) (filedPolynomial S d b)) 1
+    ∷ proofFails unless all (λ i. eqb (cIn b i) (filedChallenge S d ys b)) (members (S .n))
     ∷ []
 
 abbrev pub filedDealing : Setting → ℕ → List ℕ → List ℕ → Outcome (Unit {0})
@@ -87,23 +93,23 @@ filedDealing S d ys b =
     tt
 
 abbrev pub filedShareChecks : ℕ → ℕ → Record → List Check
-filedShareChecks d i r = 4 unless isShareFor (openedForm d) i r ∷ 4 unless eqb (r .w7) 0 ∷ []
+filedShareChecks d i r = badForm unless isShareFor (openedForm d) i r ∷ badForm unless eqb (r .w7) 0 ∷ []
 
 abbrev pub filedShareFigures : Setting → ℕ → ℕ → ℕ → ℕ → Record → List Check
 filedShareFigures S d i y Y r =
     let G = S .group in
     let a1 = announced G (G .h .0) y (shareC r) (shareR r) in
     let a2 = announced G (ZOf r) Y (shareC r) (shareR r) in
-    6 unless isElement G (ZOf r)
-    ∷ 7 unless (isExponent G (shareC r) && isExponent G (shareR r))
-    ∷ 10 unless eqb (shareC r) (filedExponent S (roundlessMessage shareTag S d (shareFigures i y Y (ZOf r) a1 a2)))
+    noElement unless isElement G (ZOf r)
+    ∷ noExponent unless (isExponent G (shareC r) && isExponent G (shareR r))
+    ∷ proofFails unless eqb (shareC r) (filedExponent S (roundlessMessage shareTag S d (shareFigures i y Y (ZOf r) a1 a2)))
     ∷ []
 
 abbrev pub filedShare : Setting → ℕ → ℕ → ℕ → ℕ → List ℕ → Outcome Element
 filedShare S d i y Y b =
     let r = recordIn b in
     outcome
-    (((8 unless (isMember (S .n) d && isMember (S .n) i) ∷ []) ++ shareInputChecks (S .group) y Y b ++ filedShareChecks d i r) ++ filedShareFigures S d i y Y r)
+    (((noMember unless (isMember (S .n) d && isMember (S .n) i) ∷ []) ++ shareInputChecks (S .group) y Y b ++ filedShareChecks d i r) ++ filedShareFigures S d i y Y r)
     (record { 0 = ZOf r })
 
 abbrev pub filedJudges : Judges
@@ -111,35 +117,59 @@ filedJudges = record { dealing = filedDealing; share = λ S F. filedShare S (F .
 
 -- the end: 14 fewer than t accepted, then 13 a stuck dealing
 abbrev pub filedEndChecks : ℕ → List Verdict → List Check
-filedEndChecks t vs = 14 unless leb t (countAccepted vs) ∷ 13 unless not (anyStuck vs) ∷ []
+filedEndChecks t vs = tooFew unless leb t (countAccepted vs) ∷ stillStuck unless not (anyStuck vs) ∷ []
+
+abbrev pub filedBoard : BoardJudge
+filedBoard =
+    record {
+      before = filedBoardChecks;
+      verdict = verdictOn filedJudges;
+      end = λ S b. filedEndChecks (S .t) (verdictsOn filedJudges S b);
+      drawn = λ S b. record { 0 = secretsProduct (S .group .p) (verdictsOn filedJudges S b) };
+    }
 
 abbrev pub filedDraw : Setting → List ℕ → Outcome Element
-filedDraw S b =
-    let vs = verdictsOn filedJudges S b in
-    outcome (filedBoardChecks S b ++ filedEndChecks (S .t) vs) (record { 0 = secretsProduct (S .group .p) vs })
+filedDraw S b = drawBy filedBoard S b
+
+-- round.set: one record of kind 9 with group, n and t, and zeros behind them
+abbrev pub filedSetChecks : List ℕ → List Check
+filedSetChecks s =
+    let r = recordIn s in
+    badLength unless eqb (length s) 32 ∷ badForm unless agrees r (setLayout (setGroup r) (setN r) (setT r) 0 0) ∷ []
 
 -- ---- the claims
 -- a board of then: zero in each word 7, and no record of kind 5
 abbrev pub OfThen : List ℕ → Type 0
 OfThen b = (i : ℕ) → i < recordsIn b → (recordAt b i .w7 ≡ 0) × (recordAt b i .w0 ≡ addedKind → ⊥)
 
-pub record FiledBoard (S : Setting) (b : List ℕ) : Type 0 where
-  -- before the verdicts
-  pub before : outcome (boardChecks S b) tt ≡ outcome (filedBoardChecks S b) (tt {0})
-  -- each verdict, where verdicts are reached
-  pub verdict : Met (boardChecks S b) → (d : ℕ) → verdictOn judges S b d ≡ verdictOn filedJudges S b d
-  -- the draw value, or the number by which there is none
-  pub draw : drawIn judges S b ≡ filedDraw S b
+-- its keys are distinct, or the scope paper refused it before the verdicts
+abbrev pub DistinctOrRefused : Setting → List ℕ → Type 0
+DistinctOrRefused S b = Met (filedBoardChecks S b) → Distinct (keysIn (S .n) b)
 
--- a board whose keys are distinct, or that 01 refused before the verdicts, is judged as it was then, under the old rule, which is that of
--- round 0 whatever the first round under the new one is
+-- such a board is judged as it was then, under the old rule
 abbrev pub FiledAsBefore : Type 0
 FiledAsBefore =
-    (S : Setting) → ProperSetting S → S .round ≡ 0 → S .whole ≡ false → (b : List ℕ) → OfThen b
-    → (Met (filedBoardChecks S b) → Distinct (keysIn (S .n) b)) → FiledBoard S b
+    (S : Setting) → ProperSetting S → S .round ≡ 0 → S .«whole_digest» ≡ false → (b : List ℕ) → OfThen b → DistinctOrRefused S b
+    → JudgedAs filedBoard S b
 
--- every other one, which has two equal keys and was let through to the verdicts, is refused by 22
+-- over a table and a round 0 the rule is the old one, whatever the first round under the new one is: all answers of the board judge, and
+-- the text that `draw` prints where round.set names round 0, are those of then
+abbrev pub FiledOverRound : Type 0
+FiledOverRound =
+    (T : List ℕ) (R : Round) → R .round ≡ 0 → (b : List ℕ) → OfThen b → DistinctOrRefused (settingIn T R) b → AnsweredAs filedBoard T R b
+
+-- a round.set of then names round 0 and no first round; what refuses such a file is what refused it then
+abbrev pub FiledSet : Type 0
+FiledSet = (s : List ℕ) → setRound (recordIn s) ≡ 0 → setFirst (recordIn s) ≡ 0 → setChecks s ≡ filedSetChecks s
+
+-- every other board of then, which has two equal keys and was let through to the verdicts, is refused by 22: in a setting, and over a table
+-- and a round
 abbrev pub FiledKeyTwice : Type 0
 FiledKeyTwice =
     (S : Setting) → S .round ≡ 0 → (b : List ℕ) → OfThen b → Met (filedBoardChecks S b) → KeyTwice (S .group) (keysIn (S .n) b)
     → drawIn judges S b ≡ refused 22
+
+abbrev pub FiledTwiceOverRound : Type 0
+FiledTwiceOverRound =
+    (T : List ℕ) (R : Round) → Met (roundChecks T R) → R .round ≡ 0 → (b : List ℕ) → OfThen b → Met (filedBoardChecks (settingIn T R) b)
+    → KeyTwice (settingIn T R .group) (keysIn (R .n) b) → RefusedOver judges T R b 22

@@ -3,7 +3,7 @@
 use mathlib.Core.Path.{_≡_}
 use mathlib.Core.List.{List}
 use Prim.Native.Nat.{ℕ, _*_, _^_, _<_, _≤_}
-use Rattle.words.specs.Lists.{All, map}
+use Rattle.words.specs.Lists.{All, map, entry}
 use Rattle.words.specs.Checks.{value}
 use Rattle.field.specs.Polynomial.{valueAt}
 use Rattle.group.specs.declared.Group.{Group}
@@ -11,9 +11,9 @@ use Rattle.sharing.specs.Setting.{ProperSetting}
 use Rattle.sharing.specs.Answer.{recoveryIn}
 use Rattle.sharing.specs.Carried.{Quorum, secretOf}
 use Rattle.sharing.specs.declared.Setting.{Setting}
-use Rattle.records.specs.Layout.{entry}
-use Rattle.dealing.specs.Dealing.{writeDealingIn, writtenDealing, YIn}
-use Rattle.sums.specs.Sum.{productOf, sumOf}
+use Rattle.sharing.specs.Sum.{productOf, sumOf}
+use Rattle.lines.specs.Lines.{YIn}
+use Rattle.dealing.specs.Dealing.{writeDealingIn, writtenDealing}
 use Rattle.share.specs.Share.{openedForm, addedForm, keyOf, shareOf, writeShareIn, writtenShare, judgeShareIn}
 use Rattle.demand3.specs.Claims.{powerOfH}
 

@@ -6,6 +6,7 @@ use mathlib.Core.List.{List, [], _∷_}
 use Prim.Native.Nat.{ℕ}
 use lib.Dec.{eqb}
 use Rattle.words.specs.Lists.{all}
+use Rattle.words.specs.Numbers.{proofFails}
 use Rattle.words.specs.Checks.{_unless_, value, outcome}
 use Rattle.words.specs.Bytes.{recordIn}
 use Rattle.group.specs.declared.Element.{Element}
@@ -13,7 +14,8 @@ use Rattle.sharing.specs.Setting.{ProperSetting, inRound, members}
 use Rattle.sharing.specs.Carried.{Carries}
 use Rattle.sharing.specs.declared.Setting.{Setting}
 use Rattle.records.specs.Layout.{shareC}
-use Rattle.dealing.specs.Dealing.{vIn, YIn, rIn, cIn, vsIn, recomputed, equationChecks, judgeDealingIn}
+use Rattle.lines.specs.Lines.{vIn, YIn, rIn, cIn, vsIn}
+use Rattle.dealing.specs.Dealing.{recomputed, equationChecks, judgeDealingIn}
 use Rattle.share.specs.Share.{shareRecomputed, judgeShareIn}
 use Rattle.share.specs.declared.ShareForm.{ShareForm}
 use Rattle.board.specs.Board.{boardChecks, linesChecks}
@@ -32,11 +34,11 @@ pub record UnderRule (S : Setting) (whole : Bool) : Type 0 where
   -- a dealing that a polynomial of degree below t carries: 10 alone
   pub carried : (d : ℕ) (ys b f : List ℕ) → Carries S f (vsIn (S .n) b) → judgeDealingIn S d ys b ≡ value tt
       → judgeDealingIn (underRule whole S) d ys b
-      ≡ outcome (10 unless all (λ i. eqb (cIn b i) (recomputed (underRule whole S) d ys (vIn b) (YIn b) (rIn b) (cIn b))) (members (S .n)) ∷ []) tt
+      ≡ outcome (proofFails unless all (λ i. eqb (cIn b i) (recomputed (underRule whole S) d ys (vIn b) (YIn b) (rIn b) (cIn b))) (members (S .n)) ∷ []) tt
   -- a share in any form: 10 alone, and the same Z
   pub share : (F : ShareForm) (i y Y : ℕ) (b : List ℕ) (Z : Element) → judgeShareIn S F i y Y b ≡ value Z
       → judgeShareIn (underRule whole S) F i y Y b
-      ≡ outcome (10 unless eqb (shareC (recordIn b)) (shareRecomputed (underRule whole S) F i y Y (recordIn b)) ∷ []) Z
+      ≡ outcome (proofFails unless eqb (shareC (recordIn b)) (shareRecomputed (underRule whole S) F i y Y (recordIn b)) ∷ []) Z
 
 abbrev pub UnderOtherRule : Type 0
 UnderOtherRule = (S : Setting) → ProperSetting S → (whole : Bool) → UnderRule S whole

@@ -4,6 +4,7 @@ use mathlib.Core.List.{List, [], _∷_}
 use Prim.Native.Nat.{ℕ}
 use lib.Dec.{eqb}
 use Rattle.words.specs.Lists.{all}
+use Rattle.words.specs.Numbers.{noElement, noExponent, proofFails}
 use Rattle.words.specs.Checks.{Check, _unless_, Outcome, outcome}
 use Rattle.field.specs.Residue.{mul, sub}
 use Rattle.group.specs.Power.{pow}
@@ -30,9 +31,9 @@ equationsHold G E =
 -- in a group
 abbrev pub equalityChecks : Group → Equality → List Check
 equalityChecks G E =
-    6 unless all (isElement G) (E .b1 .0 ∷ E .x1 .0 ∷ E .b2 .0 ∷ E .x2 .0 ∷ E .a1 .0 ∷ E .a2 .0 ∷ [])
-    ∷ 7 unless all (isExponent G) (E .c .0 ∷ E .r .0 ∷ [])
-    ∷ 10 unless equationsHold G E
+    noElement unless all (isElement G) (E .b1 .0 ∷ E .x1 .0 ∷ E .b2 .0 ∷ E .x2 .0 ∷ E .a1 .0 ∷ E .a2 .0 ∷ [])
+    ∷ noExponent unless all (isExponent G) (E .c .0 ∷ E .r .0 ∷ [])
+    ∷ proofFails unless equationsHold G E
     ∷ []
 
 unfoldable pub equalityIn : Group → Equality → Outcome (Unit {0})

@@ -1,7 +1,7 @@
 // Proofs that two elements are two bases to one exponent: their announcements and responses, and the operation that judges one.
 ghost use mathlib.Core.Path.{_≡_};
 ghost use Prim.Native.Nat.{_<_};
-ghost use Rattle.sharing.specs.Answer.{checkOutcomeOf};
+ghost use Rattle.words.specs.Checks.{checkOutcomeOf};
 ghost use Rattle.equality.specs.Equality.{announced, response, equationsHold, equalityIn, equalityOutcome};
 use crate::Equality;
 use group::Element;
@@ -11,8 +11,9 @@ use group::GroupAnswer;
 use group::all_elements;
 use group::all_exponents;
 use group::group_of;
-use sharing::CheckAnswer;
-use sharing::passed_if;
+use words::CheckAnswer;
+use words::passed_if;
+use words::refusal;
 
 // The announcement that the challenge c and the response r give for the element x to the base b.
 // Internal: callers ensure that p is above 1.
@@ -48,12 +49,12 @@ pub fn equality_in(gr: Group, e: Equality) -> CheckAnswer
     ensures { λ r. ⌜ checkOutcomeOf r ≡ equalityIn gr e ⌝ }
 {
     if !all_elements(gr, &[e.b1.0, e.x1.0, e.b2.0, e.x2.0, e.a1.0, e.a2.0]) {
-        return CheckAnswer::Refused(6);
+        return CheckAnswer::Refused(refusal::NO_ELEMENT);
     }
     if !all_exponents(gr, &[e.c.0, e.r.0]) {
-        return CheckAnswer::Refused(7);
+        return CheckAnswer::Refused(refusal::NO_EXPONENT);
     }
-    passed_if(equations_hold(gr, e), 10)
+    passed_if(equations_hold(gr, e), refusal::PROOF_FAILS)
 }
 
 // One proof with lent figures. Refused: 3, 4, 20, 21 and 1 as group_of; 6 a figure that is no element; 7 c or r not below q; 10 an equation

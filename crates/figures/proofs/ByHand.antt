@@ -4,6 +4,7 @@ use mathlib.Core.Bool.{Bool, true, false, _&&_}
 use mathlib.Core.List.{List, []}
 use Prim.Native.Nat.{ℕ}
 use Rattle.words.specs.Checks.{Met}
+use Rattle.words.specs.Lists.{entry}
 use Rattle.field.specs.Residue.{add, mul, sub, inv}
 use Rattle.group.specs.Power.{pow}
 use Rattle.group.specs.Table.{groupsOf, tableChecks, isGroup, groupOf, groupChecks, inGroup}
@@ -20,7 +21,6 @@ use Rattle.sharing.specs.Carried.{powersAt}
 use Rattle.sharing.specs.Figures.{smallRound}
 use Rattle.sharing.proofs.Theorems.{round-by-setting}
 use Rattle.sharing.proofs.Figures.{carried-figures}
-use Rattle.records.specs.Layout.{entry}
 use Rattle.records.specs.Keys.{isKey}
 use Rattle.equality.specs.Equality.{announced, response, equalityOutcome}
 use Rattle.dealing.specs.Dealing.{writtenV, writtenY, writtenR}

@@ -64,8 +64,8 @@ abbrev pub exponent : ℕ → Exponent
 exponent e = record { 0 = e }
 
 -- a round of group 1 with n members and t = 2
-abbrev pub roundOf : ℕ → Round
-roundOf n = record { group = 1; n = n; t = 2; round = 0; «first_new_round» = 0 }
+abbrev pub roundWith : ℕ → Round
+roundWith n = record { group = 1; n = n; t = 2; round = 0; «first_new_round» = 0 }
 
 -- the proof of member 1's line, with the response r: v = 9 to the base g and Y = 8 to the base y = 12 under the challenge 5
 abbrev pub proofWith : ℕ → Equality
@@ -138,8 +138,8 @@ pub record ByHand : Type 0 where
   pub exponent-10 : powerOutcome [] 1 (element 4) (exponent 10) ≡ value (element 6)
   pub exponent-11 : powerOutcome [] 1 (element 4) (exponent 11) ≡ refused 7
   -- n = 10 passes, 11: 2
-  pub round-10 : Met (roundChecks [] (roundOf 10))
-  pub round-11 : (vs : List ℕ) (u : ℕ) → openingOutcome [] (roundOf 11) vs u ≡ refused 2
+  pub round-10 : Met (roundChecks [] (roundWith 10))
+  pub round-11 : (vs : List ℕ) (u : ℕ) → openingOutcome [] (roundWith 11) vs u ≡ refused 2
   -- ---- not of that section: 1 as a figure
   -- in each group of an accepted table v = 1 and Y = 1 are proper; as a key 1 is not
   pub element-1 : (T : List ℕ) (k : ℕ) → Met (groupChecks T k) → isElement (groupOf (groupsOf T) k) 1 ≡ true

@@ -1,6 +1,7 @@
 -- What the operation power answers, case by case, and what it is to answer.
 use mathlib.Core.List.{List, [], _∷_}
 use Prim.Native.Nat.{ℕ}
+use Rattle.words.specs.Numbers.{noElement, noExponent}
 use Rattle.words.specs.Checks.{Check, _unless_, Outcome, value, refused, outcome}
 use Rattle.group.specs.Power.{pow}
 use Rattle.group.specs.Table.{inGroup}
@@ -18,7 +19,7 @@ elementOutcomeOf (Refused k) = refused k
 -- ---- a power
 -- in a group
 abbrev pub powerChecks : Group → Element → Exponent → List Check
-powerChecks G b e = 6 unless isElement G (b .0) ∷ 7 unless isExponent G (e .0) ∷ []
+powerChecks G b e = noElement unless isElement G (b .0) ∷ noExponent unless isExponent G (e .0) ∷ []
 
 abbrev pub powerValue : Group → Element → Exponent → Element
 powerValue G b e = record { 0 = pow (G .p) (b .0) (e .0) }

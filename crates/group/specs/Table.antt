@@ -6,6 +6,7 @@ use Prim.Native.Nat.{ℕ, suc, _-_, _%_, _^_}
 use lib.Dec.{leb, ltb, eqb}
 use lib.ListN.{length, getD}
 use Rattle.words.specs.Lists.{map, all, upFrom}
+use Rattle.words.specs.Numbers.{unknownGroup, badLength, badForm, notPrime, noGenerator}
 use Rattle.words.specs.Checks.{Check, _unless_, Outcome, value, refused, outcome, ifMet}
 use Rattle.words.specs.Bytes.{recordsIn, recordAt, agrees}
 use Rattle.words.specs.declared.Record.{Record}
@@ -61,7 +62,7 @@ hasGenerators G = isGenerator G (G .g .0) && (isGenerator G (G .h .0) && not (eq
 -- group by group
 abbrev pub groupsChecks : List Group → List Check
 groupsChecks [] = []
-groupsChecks (G ∷ Gs) = 20 unless hasPrimes G ∷ 21 unless hasGenerators G ∷ groupsChecks Gs
+groupsChecks (G ∷ Gs) = notPrime unless hasPrimes G ∷ noGenerator unless hasGenerators G ∷ groupsChecks Gs
 
 -- the form of n records from the record i on, whose number is i + 1
 abbrev pub areGroups : List ℕ → ℕ → ℕ → Bool
@@ -70,8 +71,8 @@ areGroups T i n = all (λ j. isGroupRecord (suc j) (recordAt T j)) (upFrom i n)
 -- whole records, at most 8, numbered 1 upwards without gaps, and each of their groups
 unfoldable pub tableChecks : List ℕ → List Check
 tableChecks T =
-    3 unless (eqb (length T % 32) 0 && leb (recordsIn T) 8)
-    ∷ 4 unless areGroups T 0 (recordsIn T)
+    badLength unless (eqb (length T % 32) 0 && leb (recordsIn T) 8)
+    ∷ badForm unless areGroups T 0 (recordsIn T)
     ∷ groupsChecks (groupsFrom T 0 (recordsIn T))
 
 -- ---- the group of a number, from 1
@@ -88,11 +89,11 @@ groupOutcomeOf (Refused k) = refused k
 
 -- the group of a number among groups, or 1 where it has none
 abbrev pub lookedUp : List Group → ℕ → Outcome Group
-lookedUp Gs k = outcome (1 unless isGroup Gs k ∷ []) (groupOf Gs k)
+lookedUp Gs k = outcome (unknownGroup unless isGroup Gs k ∷ []) (groupOf Gs k)
 
 -- ---- what an operation does by a table and a number: the table comes first, then 1, then the checks of the group
 unfoldable pub groupChecks : List ℕ → ℕ → List Check
-groupChecks T k = tableChecks T ++ (1 unless isGroup (groupsOf T) k ∷ [])
+groupChecks T k = tableChecks T ++ (unknownGroup unless isGroup (groupsOf T) k ∷ [])
 
 abbrev pub groupOutcome : List ℕ → ℕ → Outcome Group
 groupOutcome T k = outcome (groupChecks T k) (groupOf (groupsOf T) k)

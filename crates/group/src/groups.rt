@@ -14,6 +14,7 @@ use field::is_prime;
 use words::Record;
 use words::agrees;
 use words::record_at;
+use words::refusal;
 
 const GROUP: u32 = 7;
 
@@ -40,7 +41,7 @@ fn built_in(number: u32) -> GroupAnswer
             g: Element(4),
             h: Element(9),
         }),
-        _ => GroupAnswer::Refused(1),
+        _ => GroupAnswer::Refused(refusal::UNKNOWN_GROUP),
     }
 }
 
@@ -127,10 +128,10 @@ fn groups_refusal(table: &[u8]) -> u32
     while i < table.len() / 32 {
         let gr = group_at(table, i);
         if !has_primes(gr) {
-            return 20;
+            return refusal::NOT_PRIME;
         }
         if !has_generators(gr) {
-            return 21;
+            return refusal::NO_GENERATOR;
         }
         i += 1;
     }
@@ -142,35 +143,29 @@ fn groups_refusal(table: &[u8]) -> u32
 pub fn table_refusal(table: &[u8]) -> u32
     ensures { λ r. ⌜ r ≡ refusal (tableChecks (now (table .entry))) ⌝ }
 {
-    if table.len() % 32 != 0 {
-        return 3;
-    }
-    if table.len() / 32 > 8 {
-        return 3;
+    if table.len() % 32 != 0 || table.len() / 32 > 8 {
+        return refusal::BAD_LENGTH;
     }
     if !are_groups(table) {
-        return 4;
+        return refusal::BAD_FORM;
     }
     groups_refusal(table)
 }
 
-// The group of a number in a table that has been judged before. Refused: 1 no group of that number.
+// Looks a group up by its number. Refused: 1 no group of that number. Internal: callers have judged the table.
 pub fn group_in(table: &[u8], number: u32) -> GroupAnswer
     ensures { λ r. ⌜ groupOutcomeOf r ≡ lookedUp (groupsOf (now (table .entry))) number ⌝ }
 {
     if table.len() == 0 {
         return built_in(number);
     }
-    if number < 1 {
-        return GroupAnswer::Refused(1);
-    }
-    if number as usize > table.len() / 32 {
-        return GroupAnswer::Refused(1);
+    if number < 1 || number as usize > table.len() / 32 {
+        return GroupAnswer::Refused(refusal::UNKNOWN_GROUP);
     }
     GroupAnswer::Value(group_at(table, number as usize - 1))
 }
 
-// The group of a number, by which every operation begins. Refused: 3, 4, 20 and 21 as table_refusal; 1 no group of that number.
+// Judges the table, and looks a group up by its number. Refused: 3, 4, 20 and 21 the table, as table_refusal; 1 no group of that number.
 pub fn group_of(table: &[u8], number: u32) -> GroupAnswer
     ensures { λ r. ⌜ groupOutcomeOf r ≡ groupOutcome (now (table .entry)) number ⌝ }
 {

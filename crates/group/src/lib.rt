@@ -14,6 +14,7 @@ pub use membership::all_exponents;
 pub use membership::is_element;
 pub use membership::is_exponent;
 pub use membership::is_generator;
+use words::refusal;
 
 // A residue modulo q.
 pub struct Exponent(pub u32);
@@ -44,10 +45,10 @@ pub fn power_in(gr: Group, base: Element, exponent: Exponent) -> ElementAnswer
     ensures { λ r. ⌜ elementOutcomeOf r ≡ powerIn gr base exponent ⌝ }
 {
     if !is_element(gr, base) {
-        return ElementAnswer::Refused(6);
+        return ElementAnswer::Refused(refusal::NO_ELEMENT);
     }
     if !is_exponent(gr, exponent) {
-        return ElementAnswer::Refused(7);
+        return ElementAnswer::Refused(refusal::NO_EXPONENT);
     }
     ElementAnswer::Value(base.power(gr, exponent))
 }

@@ -10,4 +10,5 @@ pub mod Presence
 pub mod Picked
 pub mod Operation
 pub mod FarFirst
+pub mod Former
 pub mod Ties

@@ -4,8 +4,9 @@ use mathlib.Core.Bool.{Bool, true, false}
 use mathlib.Core.List.{List}
 use mathlib.Core.Logic.{_↔_}
 use Prim.Native.Nat.{ℕ, _≤_, _<_}
-use lib.Dec.{ltb}
+use lib.Dec.{eqb, ltb}
 use lib.ListN.{length, take}
+use Rattle.words.specs.Choice.{pick}
 use Rattle.words.specs.Lists.{All, Pairwise, Distinct, absent, upFrom}
 use Rattle.words.specs.Checks.{value, refused}
 use Rattle.group.specs.declared.Element.{Element}
@@ -71,17 +72,29 @@ pub record FarFirst (v radius N k : ℕ) : Type 0 where
 abbrev pub PickedFarFirst : Type 0
 PickedFarFirst = (v radius N k : ℕ) → k ≤ N → FarFirst v radius N k
 
--- a list of the first k plots by whatever order goes by different ranks is the picked one, where no plot of the list has the rank of another
--- one of the N: so a list that was printed while the lower number came first
-abbrev pub RanksAlone : Type 0
-RanksAlone =
-    (v radius N k : ℕ) → k ≤ N → (before : ℕ → ℕ → Bool) → StrictOrder before
-    → ((a b : ℕ) → (rank v radius a ≡ rank v radius b → ⊥) → before a b ≡ ltb (rank v radius a) (rank v radius b))
-    → ((a : ℕ) → 1 ≤ a → a ≤ N → All (λ x. rank v radius x ≡ rank v radius a → x ≡ a) (take k (sorted before (upFrom 1 N))))
-    → take k (sorted before (upFrom 1 N)) ≡ picked v radius N k
-
 -- equal ranks occur: the value 211 gives two plots of radius 15 one rank, and the higher number comes first
 pub record EqualRanks : Type 0 where
   pub lower : rank 211 15 1630 ≡ 143263563
   pub higher : rank 211 15 1857 ≡ 143263563
   pub first : comesBefore (rank 211 15) 1857 1630 ≡ true
+
+-- ---- lists printed while the lower number came first
+-- the order by which they were picked: the smaller rank first, equal ranks by the lower number
+unfoldable pub cameBefore : (ℕ → ℕ) → ℕ → ℕ → Bool
+cameBefore r a b = pick (eqb (r a) (r b)) (ltb a b) (ltb (r a) (r b))
+
+abbrev pub FormerOrder : Type 0
+FormerOrder = (r : ℕ → ℕ) → StrictOrder (cameBefore r)
+
+-- the list that was printed
+abbrev pub printed : ℕ → ℕ → ℕ → ℕ → List ℕ
+printed v radius N k = take k (sorted (cameBefore (rank v radius)) (upFrom 1 N))
+
+-- no plot of the list has the rank of another one of the N
+abbrev pub RanksOnce : ℕ → ℕ → ℕ → List ℕ → Type 0
+RanksOnce v radius N xs = (a : ℕ) → 1 ≤ a → a ≤ N → All (λ x. rank v radius x ≡ rank v radius a → x ≡ a) xs
+
+-- exactly then the printed list is the one that is picked now: ranks alone have made it
+abbrev pub RanksAlone : Type 0
+RanksAlone =
+    (v radius N k : ℕ) → k ≤ N → (printed v radius N k ≡ picked v radius N k) ↔ RanksOnce v radius N (printed v radius N k)

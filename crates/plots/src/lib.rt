@@ -2,8 +2,7 @@
 ghost use mathlib.Core.Path.{_≡_};
 ghost use Prim.Native.Nat.{_≤_};
 ghost use lib.ListN.{length};
-ghost use Rattle.words.specs.Checks.{refusal};
-ghost use Rattle.sharing.specs.Answer.{checkOutcomeOf};
+ghost use Rattle.words.specs.Checks.{refusal, checkOutcomeOf};
 ghost use Rattle.plots.specs.Sorting.{keysOf, sortedKeys, spareAfter};
 ghost use Rattle.plots.specs.Picked.{isRadius, isCount, picked, pickChecks, pickIn, pickOutcome, lentPlotsIn, lentPlots};
 
@@ -17,8 +16,9 @@ use group::group_of;
 use group::is_element;
 use rank::put_keys;
 use rank::put_plots;
-use sharing::CheckAnswer;
 use sort::sort;
+use words::CheckAnswer;
+use words::refusal;
 
 // Whether plots of this radius are mapped or cruised.
 fn is_radius(radius: u32) -> bool
@@ -48,16 +48,16 @@ fn pick_refusal(gr: Group, value: Element, radius: u32, total: u32, count: u32, 
     ensures { λ r. ⌜ r ≡ refusal (pickChecks gr value radius total count room) ⌝ }
 {
     if !is_element(gr, value) {
-        return 6;
+        return refusal::NO_ELEMENT;
     }
     if !is_radius(radius) {
-        return 15;
+        return refusal::BAD_RADIUS;
     }
     if !is_count(total, count) {
-        return 16;
+        return refusal::BAD_COUNT;
     }
     if room != count as usize {
-        return 3;
+        return refusal::BAD_LENGTH;
     }
     0
 }

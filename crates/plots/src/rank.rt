@@ -4,7 +4,7 @@ ghost use Prim.Native.Nat.{_≤_};
 ghost use lib.ListN.{length};
 ghost use Rattle.words.specs.Lists.{map};
 ghost use Rattle.plots.specs.Rank.{rank};
-ghost use Rattle.plots.specs.Sorting.{keyOf, keysOf, plotOf};
+ghost use Rattle.plots.specs.Sorting.{sortKey, keysOf, plotOf};
 use group::Element;
 use sha256::DigestAnswer;
 use sha256::digest;
@@ -30,7 +30,7 @@ fn rank(value: Element, radius: u8, plot: u32) -> u32
 // The key of a plot: its rank, and behind it its number counted down from the largest word, for of equal ranks the higher number comes
 // first.
 fn key(value: Element, radius: u8, plot: u32) -> u64
-    ensures { λ r. ⌜ r ≡ keyOf (rank (value .0) radius) plot ⌝ }
+    ensures { λ r. ⌜ r ≡ sortKey (rank (value .0) radius) plot ⌝ }
 {
     rank(value, radius, plot) as u64 * 4294967296 + (4294967295 - plot as u64)
 }

@@ -1,4 +1,3 @@
 -- Laws that the functions' proofs, here and above, share.
-pub mod Members
 pub mod Posted
 pub mod ProperKeys

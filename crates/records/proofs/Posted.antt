@@ -1,33 +1,17 @@
--- What is posted reads back: a setting's figures are words, and records written one after the other are found again, by induction over the members.
+-- What is posted reads back: records written one after the other are found again, by induction over the members.
 use mathlib.Core.Path.{_≡_, refl, ap, _∙_}
-use mathlib.Core.Bool.{true}
 use mathlib.Core.List.{List, [], _∷_, _++_}
 use Prim.Native.Nat.{ℕ, zero, suc, _+_, _-_, _*_, _^_, _≤_, _<_}
 use native.Mathlib.Nat.{le-of-suc-le-suc, not-suc-le-zero}
 use native.Mathlib.Omega.{arith}
 use lib.ListN.{length, getD, take, drop, length-append}
 use lib.Seq.{take-at, drop-append-add}
-use Rattle.words.specs.Lists.{Below}
+use Rattle.words.specs.Lists.{Below, upFrom}
 use Rattle.words.specs.Bytes.{recordWords, recordBytes, recordIn, recordAt}
 use Rattle.words.specs.declared.Record.{Record}
 use Rattle.words.proofs.Lists.{up-length, up-at}
 use Rattle.words.proofs.Bytes.{record-length, read-back}
-use Rattle.group.specs.Element.{isElement}
-use Rattle.group.proofs.Elements.{element-true}
-use Rattle.sharing.specs.Setting.{ProperSetting, members}
-use Rattle.sharing.specs.declared.Setting.{Setting}
-use Rattle.records.specs.Layout.{recordOf, recordsBytes}
-
--- ---- figures are words
-module _ {S : Setting} (P : ProperSetting S) where
-  pub member-word : (i : ℕ) → i ≤ S .n → i < 2 ^ 32
-  member-word i h = omega (arith, P .n-most)
-
-  pub element-word : (v : ℕ) → isElement (S .group) v ≡ true → v < 2 ^ 32
-  element-word v e = omega (arith, element-true (S .group) v e .low, P .p-word)
-
-  pub exponent-word : (e : ℕ) → e < S .group .q → e < 2 ^ 32
-  exponent-word e h = omega (arith, P .q-word)
+use Rattle.records.specs.Layout.{memberRecord, recordsBytes}
 
 -- ---- records written one after the other
 module _ (f : ℕ → Record) where
@@ -47,12 +31,12 @@ module _ (f : ℕ → Record) where
       ∙ ap (take 32) (drop-append-add (recordBytes (f i)) (recordsBytes f is) (32 * k))
       ∙ records-part is k (le-of-suc-le-suc h)
 
-  pub record-back : (n i : ℕ) → 1 ≤ i → i ≤ n → Below (2 ^ 32) (recordWords (f i)) → recordOf (recordsBytes f (members n)) i ≡ f i
+  pub record-back : (n i : ℕ) → 1 ≤ i → i ≤ n → Below (2 ^ 32) (recordWords (f i)) → memberRecord (recordsBytes f (upFrom 1 n)) i ≡ f i
   unfolding recordAt
   record-back n i h l w =
-      let e : getD (members n) (i - 1) 0 ≡ i = up-at 1 n (i - 1) (omega arith) ∙ omega arith in
-      ap recordIn (records-part (members n) (i - 1) (omega (arith, up-length 1 n)) ∙ ap (λ (m : ℕ). recordBytes (f m)) e) ∙ read-back (f i) w
+      let e : getD (upFrom 1 n) (i - 1) 0 ≡ i = up-at 1 n (i - 1) (omega arith) ∙ omega arith in
+      ap recordIn (records-part (upFrom 1 n) (i - 1) (omega (arith, up-length 1 n)) ∙ ap (λ (m : ℕ). recordBytes (f m)) e) ∙ read-back (f i) w
 
 -- ---- a member's record, by its index from 0
-pub record-of : (b : List ℕ) (i : ℕ) → recordAt b i ≡ recordOf b (i + 1)
+pub record-of : (b : List ℕ) (i : ℕ) → recordAt b i ≡ memberRecord b (i + 1)
 record-of b i = let e : i ≡ i + 1 - 1 = omega arith in ap (recordAt b) e

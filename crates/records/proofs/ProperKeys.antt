@@ -1,20 +1,22 @@
 -- The claims of the members' keys.
-use mathlib.Core.Path.{_≡_, refl, sym, ap, _∙_}
-use mathlib.Core.Bool.{true, false}
+use mathlib.Core.Path.{_≡_, refl, sym, _∙_}
+use mathlib.Core.Bool.{true, false, not}
 use mathlib.Core.List.{List, _++_}
 use mathlib.Core.Logic.{inl, inr, ⊎-elim}
 use Prim.Native.Nat.{ℕ, _+_, _-_}
 use native.Mathlib.Omega.{arith}
-use Rattle.words.specs.Choice.{pick}
-use Rattle.words.specs.Lists.{all, noneTwice}
-use Rattle.words.specs.Checks.{Outcome, refused, refusal, ifMet}
-use Rattle.words.proofs.Tests.{all-true, true-all, distinct-true, true-distinct, false-twice, twice-false, pick-true}
-use Rattle.words.proofs.Stages.{stages-outcome, stages-choice}
+use lib.Dec.{eqb}
+use Rattle.words.specs.Lists.{all, noneTwice, entry}
+use Rattle.words.proofs.Lists.{All-append, entry-at}
+use Rattle.words.proofs.Tests.{and-true, all-true, true-all, distinct-true, true-distinct, false-twice, twice-false}
+use Rattle.group.specs.Element.{isElement, isGenerator}
 use Rattle.group.specs.declared.Group.{Group}
-use Rattle.records.specs.Layout.{entry}
 use Rattle.records.specs.Keys.{isKey, keyChecks}
-use Rattle.records.specs.Claims.{ProperKeys, KeysProper, KeyTwice, EqualKeys, filedKeyChecks, DistinctAsBefore}
-use Rattle.records.proofs.Members.{entry-at}
+use Rattle.records.specs.Claims.{KeysProper, KeyTwice, EqualKeys, DistinctMet}
+
+pub key-element : (G : Group) (y : ℕ) → isKey G y ≡ true → isElement G y ≡ true
+unfolding isGenerator isKey
+key-element G y e = and-true (isElement G y) (not (eqb y 1)) e .0
 
 -- two members have one key exactly where each number is a key and one stands twice
 module _ (G : Group) (ys : List ℕ) where
@@ -50,17 +52,8 @@ keys-proper G ys = (
   λ P. (true-all (isKey G) ys (P .keys), (true-distinct ys (P .distinct), tt)),
 )
 
-pub distinct-as-before : DistinctAsBefore
+pub distinct-met : DistinctMet
 unfolding keyChecks
-distinct-as-before A G ys d front rest a b =
-    let k = all (isKey G) ys in
-    let t = true-distinct ys d in
-    let own = keyChecks G ys ++ rest in
-    let filed = filedKeyChecks G ys ++ rest in (
-      stages-outcome A front own a
-          ∙ ap (λ (o : Outcome A). ifMet front (pick k o (refused 6)) (refused (refusal front))) (pick-true (noneTwice ys) _ _ t)
-          ∙ sym (stages-outcome A front filed a),
-      stages-choice A front own a b
-          ∙ ap (λ (x : A). ifMet front (pick k x b) b) (pick-true (noneTwice ys) _ _ t)
-          ∙ sym (stages-choice A front filed a b),
-    )
+distinct-met G ys d front behind m k =
+    All-append (λ c. c .number ≡ 22 → c .met ≡ true) front (keyChecks G ys ++ behind) m
+    (λ e. absurd (omega (arith, e)), (λ e. true-distinct ys d, k))

@@ -1,15 +1,15 @@
 -- What is claimed of the members' keys, wherever they are tested: a proper key list is one of distinct keys, two equal keys are refused
--- by 22, and with distinct keys every answer is that of 01.
+-- by 22, and with distinct keys 22 refuses nothing, so that every answer is the one without it.
 use mathlib.Core.Path.{_≡_}
 use mathlib.Core.Bool.{true}
 use mathlib.Core.List.{List, [], _∷_, _++_}
 use mathlib.Core.Logic.{_↔_}
 use Prim.Native.Nat.{ℕ, _<_, _≤_}
 use lib.ListN.{length}
-use Rattle.words.specs.Lists.{All, Distinct, all}
-use Rattle.words.specs.Checks.{Check, _unless_, outcome, Met, FirstUnmet, ifMet}
+use Rattle.words.specs.Lists.{All, Distinct, all, entry}
+use Rattle.words.specs.Numbers.{noElement}
+use Rattle.words.specs.Checks.{Check, _unless_, Met, FirstUnmet, MetBy}
 use Rattle.group.specs.declared.Group.{Group}
-use Rattle.records.specs.Layout.{entry}
 use Rattle.records.specs.Keys.{isKey, keyChecks}
 
 -- ---- proper keys
@@ -37,14 +37,13 @@ abbrev pub EqualKeys : Type 0
 EqualKeys = (G : Group) (ys : List ℕ) → FirstUnmet 22 (keyChecks G ys) ↔ KeyTwice G ys
 
 -- ---- distinct keys
--- the stage of 01, which let equal keys through
-abbrev pub filedKeyChecks : Group → List ℕ → List Check
-filedKeyChecks G ys = 6 unless all (isKey G) ys ∷ []
+-- with distinct keys what the stage tests by 22 is met, whatever else is tested before it and behind: so, by without-outcome and
+-- without-choice, an operation with this stage answers what it would answer without 22, and leaves the same in a lent buffer
+abbrev pub DistinctMet : Type 0
+DistinctMet =
+    (G : Group) (ys : List ℕ) → Distinct ys → (front behind : List Check) → MetBy 22 front → MetBy 22 behind
+    → MetBy 22 (front ++ (keyChecks G ys ++ behind))
 
--- with distinct keys the stage does what that of 01 did, whatever is tested before it and behind: the answer is the same, and so is what a
--- lent buffer holds
-abbrev pub DistinctAsBefore : Type 1
-DistinctAsBefore =
-    (A : Type 0) (G : Group) (ys : List ℕ) → Distinct ys → (front rest : List Check) (a b : A)
-    → (outcome (front ++ (keyChecks G ys ++ rest)) a ≡ outcome (front ++ (filedKeyChecks G ys ++ rest)) a)
-    × (ifMet (front ++ (keyChecks G ys ++ rest)) a b ≡ ifMet (front ++ (filedKeyChecks G ys ++ rest)) a b)
+-- the stage of the scope paper, which let equal keys through
+abbrev pub filedKeyChecks : Group → List ℕ → List Check
+filedKeyChecks G ys = noElement unless all (isKey G) ys ∷ []

@@ -2,7 +2,6 @@
 use mathlib.Core.Bool.{Bool}
 use mathlib.Core.List.{List, [], _∷_, _++_}
 use Prim.Native.Nat.{ℕ, _-_}
-use lib.ListN.{getD}
 use lib.Dec.{eqb}
 use Rattle.words.specs.Bytes.{recordBytes, recordAt, agrees}
 use Rattle.words.specs.declared.Record.{Record}
@@ -126,13 +125,9 @@ abbrev pub isOfRound : ℕ → Record → Bool
 isOfRound round r = eqb (roundOf r) round
 
 -- ---- many
--- the figure of member i in a list of the members' figures
-unfoldable pub entry : List ℕ → ℕ → ℕ
-entry l i = getD l (i - 1) 0
-
 -- the record of member i among the members' records
-abbrev pub recordOf : List ℕ → ℕ → Record
-recordOf b i = recordAt b (i - 1)
+abbrev pub memberRecord : List ℕ → ℕ → Record
+memberRecord b i = recordAt b (i - 1)
 
 -- the bytes of the record of each member of a list
 unfoldable pub recordsBytes : (ℕ → Record) → List ℕ → List ℕ

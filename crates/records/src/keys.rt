@@ -9,6 +9,7 @@ use group::Exponent;
 use group::Group;
 use group::is_generator;
 use words::none_twice;
+use words::refusal;
 
 // A key: an element that is not 1.
 pub fn is_key(gr: Group, y: Element) -> bool
@@ -35,10 +36,10 @@ pub fn keys_refusal(gr: Group, ys: &[u32]) -> u32
     ensures { λ r. ⌜ r ≡ refusal (keyChecks gr (now (ys .entry))) ⌝ }
 {
     if !all_keys(gr, ys) {
-        return 6;
+        return refusal::NO_ELEMENT;
     }
     if !none_twice(ys) {
-        return 22;
+        return refusal::SAME_KEY;
     }
     0
 }

@@ -14,15 +14,15 @@ use Rattle.words.proofs.Checks.{value-met, refused-exactly}
 use Rattle.words.specs.declared.Record.{Record}
 use Rattle.sha256.specs.declared.state.State.{State}
 use Rattle.sha256.specs.Padding.{pad, blocks}
-use Rattle.sha256.specs.Hash.{plus, compress, intermediate, stateRecord, hashValue, hash}
+use Rattle.sha256.specs.Hash.{addStates, compress, intermediate, stateRecord, hashValue, hash}
 use Rattle.sha256.specs.Answer.{digestChecks, outcomeOf, digestOutcome}
 use Rattle.sha256.specs.declared.DigestAnswer.{DigestAnswer}
 use Rattle.sha256.specs.declared.DigestAnswer.the-variants.{Value, Refused}
 use Rattle.sha256.specs.Claims.{HashWords, HashBytes, DigestValue, DigestRefused}
 use Rattle.sha256.proofs.Padded.{pad-blocks}
 
-sums-low : (v s : State) → Below (2 ^ 32) (recordWords (stateRecord (plus v s)))
-unfolding plus
+sums-low : (v s : State) → Below (2 ^ 32) (recordWords (stateRecord (addStates v s)))
+unfolding addStates
 sums-low v s =
     (omega arith, (omega arith, (omega arith, (omega arith, (omega arith, (omega arith, (omega arith, (omega arith, tt))))))))
 

@@ -42,13 +42,13 @@ rounds w s zero = s
 rounds w s (suc t) = round (rounds w s t) (getD K t 0) (getD w t 0)
 
 -- 6.2.2, step 4: the sum of the working variables v and the hash value s, word by word
-unfoldable pub plus : State → State → State
-plus v s =
+unfoldable pub addStates : State → State → State
+addStates v s =
     record { a = v .a ⊞ s .a; b = v .b ⊞ s .b; c = v .c ⊞ s .c; d = v .d ⊞ s .d; e = v .e ⊞ s .e; f = v .f ⊞ s .f; g = v .g ⊞ s .g; h = v .h ⊞ s .h }
 
 -- 6.2.2, steps 1 to 4: the hash value after the block m, from the hash value s
 unfoldable pub compress : State → List ℕ → State
-compress s m = plus (rounds (schedule m 64) s 64) s
+compress s m = addStates (rounds (schedule m 64) s 64) s
 
 -- 6.2.2: the intermediate hash value after i blocks of the padded message p
 unfoldable pub intermediate : List ℕ → ℕ → State

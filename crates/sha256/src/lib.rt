@@ -10,6 +10,7 @@ mod word;
 
 pub use state::State;
 use words::Record;
+use words::refusal;
 
 // The digest as eight words, or the number of a refusal.
 pub enum DigestAnswer {
@@ -22,7 +23,7 @@ pub fn digest(s: &[u8]) -> DigestAnswer
     ensures { λ r. ⌜ outcomeOf r ≡ digestOutcome (now (s .entry)) ⌝ }
 {
     if 65536 < s.len() {
-        return DigestAnswer::Refused(3);
+        return DigestAnswer::Refused(refusal::BAD_LENGTH);
     }
     let count = padding::blocks(s);
     let mut state = State::new();

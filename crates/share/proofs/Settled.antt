@@ -20,14 +20,14 @@ use Rattle.group.specs.Element.{isElement, isExponent}
 use Rattle.group.proofs.Elements.{exponent-true, true-exponent}
 use Rattle.sharing.specs.Setting.{isMember}
 use Rattle.sharing.specs.declared.Setting.{Setting}
+use Rattle.sharing.proofs.EachMember.{member-exactly}
 use Rattle.records.specs.Layout.{addedKind, shareLayout, isShareRecord, dealerOf, memberOf, roundOf, shareC, shareR}
 use Rattle.records.specs.Keys.{isKey, isSecretKey}
 use Rattle.challenge.specs.Message.{challengeOf, shareMessage}
 use Rattle.equality.specs.Equality.{response}
-use Rattle.records.proofs.Members.{member-exactly}
 use Rattle.share.specs.declared.ShareForm.{ShareForm}
-use Rattle.share.specs.Share.{isDealer, keyOf, shareOf, writtenShareC, writtenShareRecord, writtenShare, membersChecks, writeShareChecks, shareInputChecks, isShareFor, shareFormChecks, shareAdmissionChecks, shareFigureChecks}
-use Rattle.share.specs.Claims.{NumbersByForm, AdmittedShare, ShareHolds}
+use Rattle.share.specs.Share.{isDealer, keyOf, shareOf, writtenShareC, writtenShareRecord, writtenShare, membersChecks, writeShareChecks, shareInputChecks, shareFormChecks, shareAdmissionChecks, shareFigureChecks}
+use Rattle.share.specs.Claims.{NumbersByForm, AdmittedShare, ShareHolds, ShareUpToRound}
 
 -- ---- dealer and member
 pub numbers-by-form : NumbersByForm
@@ -52,15 +52,16 @@ dealer-most n F = by-kind (eqb (F .kind) addedKind)
 -- ---- all before the figures
 module _ (S : Setting) (F : ShareForm) (i y Y : ℕ) (b : List ℕ) where
   -- the stages of it, but for the round
-  pub admission-stages : AdmittedShare S F i y Y b (recordIn b)
-      → Met (membersChecks S F i) × Met (shareInputChecks (S .group) y Y b) × (isShareFor F i (recordIn b) ≡ true)
+  pub admission-stages : AdmittedShare S F i y Y b (recordIn b) → ShareUpToRound S F i y Y b
   unfolding shareInputChecks
   admission-stages A =
-      let r = recordIn b in (
-        members-exactly S F i .1 (A .dealer, A .member),
-        (eq-eqb (length b) 32 (A .size), (true-and (isKey (S .group) y) _ (A .key) (A .Y-element), tt)),
-        true-and (isShareRecord (F .kind) r) _ (A .kind) (true-equal (dealerOf r) (F .dealer) (memberOf r) i (A .dealer-word) (A .member-word)),
-      )
+      let r = recordIn b in
+      record {
+        numbers = members-exactly S F i .1 (A .dealer, A .member);
+        inputs = (eq-eqb (length b) 32 (A .size), (true-and (isKey (S .group) y) _ (A .key) (A .Y-element), tt));
+        form =
+            true-and (isShareRecord (F .kind) r) _ (A .kind) (true-equal (dealerOf r) (F .dealer) (memberOf r) i (A .dealer-word) (A .member-word));
+      }
 
   pub admission-exactly : Met (shareAdmissionChecks S F i y Y b) ↔ AdmittedShare S F i y Y b (recordIn b)
   unfolding shareAdmissionChecks shareInputChecks shareFormChecks
@@ -89,7 +90,7 @@ module _ (S : Setting) (F : ShareForm) (i y Y : ℕ) (b : List ℕ) where
             },
         λ A.
             let s = admission-stages A in
-            both-met (numbers ++ inputs) form (both-met numbers inputs (s .0) (s .1)) (s .2, (eq-eqb (roundOf r) (S .round) (A .round), tt)),
+            both-met (numbers ++ inputs) form (both-met numbers inputs (s .numbers) (s .inputs)) (s .form, (eq-eqb (roundOf r) (S .round) (A .round), tt)),
       )
 
   pub admission-none : {k : ℕ} → k ≡ refusal (shareAdmissionChecks S F i y Y b) → k ≡ 0 → AdmittedShare S F i y Y b (recordIn b)

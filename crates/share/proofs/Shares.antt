@@ -10,7 +10,7 @@ use native.Mathlib.Omega.{arith}
 use borrow.Author.Tests.{ne-eqb}
 use lib.ListN.{length}
 use Rattle.words.specs.Lists.{Below}
-use Rattle.words.specs.Checks.{value, refused, FirstUnmet}
+use Rattle.words.specs.Checks.{Check, value, refused, Met, FirstUnmet}
 use Rattle.words.specs.Bytes.{recordWords, recordIn}
 use Rattle.words.specs.declared.Record.{Record}
 use Rattle.words.proofs.Checks.{value-exactly, refused-exactly, if-met, if-unmet}
@@ -22,9 +22,10 @@ use Rattle.group.specs.Element.{isElement}
 use Rattle.group.specs.declared.Element.{Element}
 use Rattle.group.specs.declared.Group.{Group}
 use Rattle.group.proofs.Elements.{power-element}
-use Rattle.sharing.specs.Setting.{ProperSetting, settingIn, inRound, roundChecks, judged, judgedElse}
+use Rattle.sharing.specs.Setting.{ProperSetting, takesWhole, settingIn, inRound, withNumbers, roundFigures, roundChecks, judged, judgedElse}
+use Rattle.sharing.specs.declared.Round.{Round}
 use Rattle.sharing.specs.declared.Setting.{Setting}
-use Rattle.sharing.proofs.Rounds.{round-proper, judged-in, judged-else-in, judged-exactly}
+use Rattle.sharing.proofs.Rounds.{round-proper, judged-in, judged-else-in, judged-exactly, member-word, element-word, exponent-word}
 use Rattle.records.specs.Layout.{roundOf, ZOf}
 use Rattle.challenge.specs.Message.{challengeOf, shareMessage}
 use Rattle.equality.specs.Equality.{announced, response}
@@ -33,7 +34,6 @@ use Rattle.share.specs.Share.{keyOf, shareOf, writtenShareC, writtenShar
 use Rattle.share.specs.Share.{membersChecks, shareInputChecks, shareFormChecks, shareRecomputed, shareAdmissionChecks, shareFigureChecks, judgeShareChecks, judgeShareFiguresIn, judgeShareIn, judgeShareOutcome}
 use Rattle.share.specs.Claims.{AcceptedShare, ShareExactly, FiguresDecide, ShareOfOtherRound, ShareComplete, ShareForOtherRound, LentShare, LentShareKept, SharesByRound}
 use Rattle.words.proofs.Records.{laid-agrees}
-use Rattle.records.proofs.Posted.{member-word, element-word, exponent-word}
 use Rattle.challenge.proofs.Challenges.{challenge-low}
 use Rattle.equality.proofs.Equal.{response-low, announced-back}
 use Rattle.share.proofs.Settled.{dealer-most, WritableShare, admission-exactly, admission-stages, figures-exactly, write-settled}
@@ -55,11 +55,13 @@ share-exactly S F i y Y b =
 
 pub share-of-other-round : ShareOfOtherRound
 unfolding judgeShareIn shareAdmissionChecks shareFormChecks
-share-of-other-round S F i y Y b m k e n =
+share-of-other-round S F i y Y b before n =
     let r = recordIn b in
+    let numbers = membersChecks S F i in
     let inputs = shareInputChecks (S .group) y Y b in
-    let form : FirstUnmet 17 (shareFormChecks (S .round) F i r) = inr (e, inl (ne-eqb (roundOf r) (S .round) n, refl)) in
-    let front = rest-first (membersChecks S F i ++ inputs) (shareFormChecks (S .round) F i r) 17 (both-met (membersChecks S F i) inputs m k) form in
+    let round : FirstUnmet 17 (shareFormChecks (S .round) F i r) = inr (before .form, inl (ne-eqb (roundOf r) (S .round) n, refl)) in
+    let met = both-met numbers inputs (before .numbers) (before .inputs) in
+    let front = rest-first (numbers ++ inputs) (shareFormChecks (S .round) F i r) 17 met round in
     sym (front-outcome (shareAdmissionChecks S F i y Y b) (shareFigureChecks S F i y Y r) 17 front (record { 0 = ZOf r }))
 
 pub figures-decide : FiguresDecide
@@ -162,7 +164,8 @@ module _ (S : Setting) (P : ProperSetting S) (word : S .round < 2 ^ 32) (F : Sha
       let b : List ℕ = writtenShare S F i Y x w in
       let A = subst (AcceptedShare S F i y Y b) (sym read-written) written-proper .admitted in
       let m = admission-stages S F i y Y b A in
-      share-of-other-round (inRound round whole S) F i y Y b (m .0) (m .1) (m .2) (λ e. n (sym e ∙ A .round))
+      share-of-other-round (inRound round whole S) F i y Y b (record { numbers = m .numbers; inputs = m .inputs; form = m .form })
+      (λ e. n (sym e ∙ A .round))
 
 pub share-complete : ShareComplete
 unfolding writeShareIn
@@ -189,7 +192,52 @@ lent-share-kept S F i Y x w out k e =
     let checks = writeShareChecks S F i Y x w (length out) in
     if-unmet (writtenShare S F i Y x w) out checks k (refused-exactly Unit checks tt k .0 e)
 
--- ---- over a round
+-- ---- over a table and a round: what is written over them, and judged over them or in a round of other numbers
+module _ (T : List ℕ) (R : Round) (F : ShareForm) (i Y x w : ℕ) (out : List ℕ) (e : writeShareOutcome T R F i Y x w (length out) ≡ value tt) where
+  abbrev within : Setting
+  within = settingIn T R
+
+  abbrev key : ℕ
+  key = keyOf (within .group) x
+
+  abbrev checks : Setting → List Check
+  checks S = writeShareChecks S F i Y x w (length out)
+
+  settled : Met (roundChecks T R) × Met (checks within)
+  unfolding writeShareOutcome
+  settled = let s = judged-exactly T R checks (λ S. tt) tt .0 e in (s .0, value-exactly Unit (checks within) tt .0 (s .1))
+
+  share-written : lentAfterShare T R F i Y x w out ≡ writtenShare within F i Y x w
+  unfolding lentAfterShare
+  share-written =
+      judged-else-in T R checks (λ S. writtenShare S F i Y x w) (settled .0) out
+      ∙ if-met (writtenShare within F i Y x w) out (checks within) (settled .1)
+
+  judged-written : (Q : Round) → Met (roundChecks T Q)
+      → judgeShareOutcome T Q F i key Y (lentAfterShare T R F i Y x w out) ≡ judgeShareIn (settingIn T Q) F i key Y (writtenShare within F i Y x w)
+  unfolding judgeShareOutcome judgeShareIn
+  judged-written Q m =
+      let b = lentAfterShare T R F i Y x w out in
+      judged-in T Q (λ S. judgeShareChecks S F i key Y b) (λ S. record { 0 = ZOf (recordIn b) }) m
+      ∙ ap (judgeShareIn (settingIn T Q) F i key Y) share-written
+
+  module _ (word : R .round < 2 ^ 32) (kind : F .kind < 2 ^ 32) where
+    abbrev proper : ProperSetting within
+    proper = round-proper T R (settled .0)
+
+    abbrev figures : WritableShare within F i Y x w (length out)
+    figures = write-settled within F i Y x w (length out) (settled .1)
+
+    complete : judgeShareOutcome T R F i key Y (lentAfterShare T R F i Y x w out) ≡ value (record { 0 = shareOf (within .group) Y x })
+    complete = judged-written R (settled .0) ∙ written-accepted within proper word F kind i Y x w (length out) figures
+
+    for-other-round : (round first : ℕ) → (round ≡ R .round → ⊥)
+        → judgeShareOutcome T (withNumbers round first R) F i key Y (lentAfterShare T R F i Y x w out) ≡ refused 17
+    unfolding roundChecks roundFigures
+    for-other-round round first n =
+        judged-written (withNumbers round first R) (settled .0)
+        ∙ refused-elsewhere within proper word F kind i Y x w (length out) figures round n (takesWhole first round)
+
 pub shares-by-round : SharesByRound
 unfolding judgeShareOutcome judgeShareIn writeShareOutcome writeShareIn lentAfterShare lentAfterShareIn judged judgedElse
 shares-by-round T R =
@@ -200,16 +248,9 @@ shares-by-round T R =
       kept = λ F i Y x w out k e.
           let checks = roundChecks T R ++ writeShareChecks (settingIn T R) F i Y x w (length out) in
           if-unmet (writtenShare (settingIn T R) F i Y x w) out checks k (refused-exactly Unit checks tt k .0 e);
-      complete = complete;
+      complete = λ k F l i Y x w out e. complete T R F i Y x w out e k l;
+      for-other-round = λ k F l i Y x w out e. for-other-round T R F i Y x w out e k l;
+      of-other-round = λ m F i y Y b before n.
+          judged-in T R (λ S. judgeShareChecks S F i y Y b) (λ S. record { 0 = ZOf (recordIn b) }) m
+          ∙ share-of-other-round (settingIn T R) F i y Y b before n;
     }
-  where
-    complete : R .round < 2 ^ 32 → (F : ShareForm) → F .kind < 2 ^ 32 → (i Y x w : ℕ) (out : List ℕ) → writeShareOutcome T R F i Y x w (length out) ≡ value tt
-        → judgeShareOutcome T R F i (keyOf (settingIn T R .group) x) Y (lentAfterShare T R F i Y x w out) ≡ value (record { 0 = shareOf (settingIn T R .group) Y x })
-    complete k F l i Y x w out e =
-        let y = keyOf (settingIn T R .group) x in
-        let W = judged-exactly T R (λ S. writeShareChecks S F i Y x w (length out)) (λ S. tt) tt .0 e in
-        let lent = judged-else-in T R (λ S. writeShareChecks S F i Y x w (length out)) (λ S. writtenShare S F i Y x w) (W .0) out in
-        let b = lentAfterShare T R F i Y x w out in
-        judged-in T R (λ S. judgeShareChecks S F i y Y b) (λ S. record { 0 = ZOf (recordIn b) }) (W .0)
-        ∙ ap (judgeShareIn (settingIn T R) F i y Y) lent
-        ∙ lent-share (settingIn T R) (round-proper T R (W .0)) k F l i Y x w out (W .1)

@@ -1,11 +1,12 @@
 -- What is claimed of decrypted shares in every form, opened or added, and in every proper setting: demand 2 for what a member posts.
--- SharesByRound reads it off for rounds.
+-- SharesByRound reads it off over a table and a round.
 use mathlib.Core.Path.{_≡_}
 use mathlib.Core.Bool.{Bool, true, _&&_}
 use mathlib.Core.List.{List, [], _∷_}
 use mathlib.Core.Logic.{_↔_}
 use Prim.Native.Nat.{ℕ, _^_, _<_, _≤_}
 use lib.ListN.{length}
+use Rattle.words.specs.Numbers.{noMember}
 use Rattle.words.specs.Checks.{_unless_, value, refused, Met}
 use Rattle.words.specs.Bytes.{recordIn}
 use Rattle.words.specs.declared.Record.{Record}
@@ -13,7 +14,7 @@ use Rattle.group.specs.Power.{pow}
 use Rattle.group.specs.Element.{isElement, Proper}
 use Rattle.group.specs.declared.Element.{Element}
 use Rattle.group.specs.declared.Group.{Group}
-use Rattle.sharing.specs.Setting.{ProperSetting, settingIn, inRound, roundChecks, isMember}
+use Rattle.sharing.specs.Setting.{ProperSetting, settingIn, inRound, withNumbers, roundChecks, isMember}
 use Rattle.sharing.specs.declared.Round.{Round}
 use Rattle.sharing.specs.declared.Setting.{Setting}
 use Rattle.records.specs.Layout.{isShareRecord, dealerOf, memberOf, roundOf, ZOf, shareC, shareR}
@@ -25,8 +26,8 @@ use Rattle.share.specs.Share.{membersChecks, shareInputChecks, isShareFo
 -- ---- the two forms
 -- by 8 an opened share is refused for its dealer or its member, and an added share for its member alone
 pub record FormNumbers (S : Setting) (i : ℕ) : Type 0 where
-  pub opened : (d : ℕ) → membersChecks S (openedForm d) i ≡ 8 unless (isMember (S .n) d && isMember (S .n) i) ∷ []
-  pub added : membersChecks S addedForm i ≡ 8 unless isMember (S .n) i ∷ []
+  pub opened : (d : ℕ) → membersChecks S (openedForm d) i ≡ noMember unless (isMember (S .n) d && isMember (S .n) i) ∷ []
+  pub added : membersChecks S addedForm i ≡ noMember unless isMember (S .n) i ∷ []
 
 abbrev pub NumbersByForm : Type 0
 NumbersByForm = (S : Setting) (i : ℕ) → FormNumbers S i
@@ -68,11 +69,17 @@ FiguresDecide =
     → judgeShareFiguresIn S F i y Y (recordIn b) ≡ judgeShareIn S F i y Y b
 
 -- ---- rounds
--- a share of another round is refused by 17 where nothing earlier refuses it: the numbers, what is handed over, and the form of its record
+-- the judge comes to the record's round: nothing earlier refuses, which is the numbers, what is handed over, and the form of the record
+pub record ShareUpToRound (S : Setting) (F : ShareForm) (i y Y : ℕ) (b : List ℕ) : Type 0 where
+  pub numbers : Met (membersChecks S F i)
+  pub inputs : Met (shareInputChecks (S .group) y Y b)
+  pub form : isShareFor F i (recordIn b) ≡ true
+
+-- then a share of another round is refused by 17
 abbrev pub ShareOfOtherRound : Type 0
 ShareOfOtherRound =
-    (S : Setting) (F : ShareForm) (i y Y : ℕ) (b : List ℕ) → Met (membersChecks S F i) → Met (shareInputChecks (S .group) y Y b)
-    → isShareFor F i (recordIn b) ≡ true → (roundOf (recordIn b) ≡ S .round → ⊥) → judgeShareIn S F i y Y b ≡ refused 17
+    (S : Setting) (F : ShareForm) (i y Y : ℕ) (b : List ℕ) → ShareUpToRound S F i y Y b → (roundOf (recordIn b) ≡ S .round → ⊥)
+    → judgeShareIn S F i y Y b ≡ refused 17
 
 -- ---- a written share, in a round whose number is a word and in a form whose kind is one, as all of them are
 -- what is written from a secret key is accepted with its key, and answers Z
@@ -117,8 +124,18 @@ pub record ShareByRound (T : List ℕ) (R : Round) : Type 0 where
   pub kept : (F : ShareForm) (i Y x w : ℕ) (out : List ℕ) (k : ℕ) → writeShareOutcome T R F i Y x w (length out) ≡ refused k
       → lentAfterShare T R F i Y x w out ≡ out
   -- what is written is accepted by a judge that takes the same figures of the round: its number, and the first round under the new rule
-  pub complete : R .round < 2 ^ 32 → (F : ShareForm) → F .kind < 2 ^ 32 → (i Y x w : ℕ) (out : List ℕ) → writeShareOutcome T R F i Y x w (length out) ≡ value tt
-      → judgeShareOutcome T R F i (keyOf (settingIn T R .group) x) Y (lentAfterShare T R F i Y x w out) ≡ value (record { 0 = shareOf (settingIn T R .group) Y x })
+  pub complete : R .round < 2 ^ 32 → (F : ShareForm) → F .kind < 2 ^ 32 → (i Y x w : ℕ) (out : List ℕ)
+      → writeShareOutcome T R F i Y x w (length out) ≡ value tt
+      → judgeShareOutcome T R F i (keyOf (settingIn T R .group) x) Y (lentAfterShare T R F i Y x w out)
+      ≡ value (record { 0 = shareOf (settingIn T R .group) Y x })
+  -- in the round of any other number it is refused by 17, whichever round is the first under the new rule
+  pub for-other-round : R .round < 2 ^ 32 → (F : ShareForm) → F .kind < 2 ^ 32 → (i Y x w : ℕ) (out : List ℕ)
+      → writeShareOutcome T R F i Y x w (length out) ≡ value tt → (round first : ℕ) → (round ≡ R .round → ⊥)
+      → judgeShareOutcome T (withNumbers round first R) F i (keyOf (settingIn T R .group) x) Y (lentAfterShare T R F i Y x w out)
+      ≡ refused 17
+  -- and so is every share of another round, where nothing earlier refuses it
+  pub of-other-round : Met (roundChecks T R) → (F : ShareForm) (i y Y : ℕ) (b : List ℕ) → ShareUpToRound (settingIn T R) F i y Y b
+      → (roundOf (recordIn b) ≡ R .round → ⊥) → judgeShareOutcome T R F i y Y b ≡ refused 17
 
 abbrev pub SharesByRound : Type 0
 SharesByRound = (T : List ℕ) (R : Round) → ShareByRound T R

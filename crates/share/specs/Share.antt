@@ -7,6 +7,7 @@ use Prim.Native.Nat.{ℕ}
 use lib.ListN.{length}
 use lib.Dec.{eqb}
 use Rattle.words.specs.Choice.{pick}
+use Rattle.words.specs.Numbers.{badLength, badForm, noElement, noExponent, noMember, proofFails, otherRound}
 use Rattle.words.specs.Checks.{Check, _unless_, Outcome, outcome, ifMet}
 use Rattle.words.specs.Bytes.{recordBytes, recordIn}
 use Rattle.words.specs.declared.Record.{Record}
@@ -39,7 +40,7 @@ isDealer n F = pick (eqb (F .kind) addedKind) (eqb (F .dealer) 0) (isMember n (F
 
 -- the dealer is one, and i is a member
 unfoldable pub membersChecks : Setting → ShareForm → ℕ → List Check
-membersChecks S F i = 8 unless (isDealer (S .n) F && isMember (S .n) i) ∷ []
+membersChecks S F i = noMember unless (isDealer (S .n) F && isMember (S .n) i) ∷ []
 
 -- ---- written: from Y, the secret key x and the nonce w
 -- the key of a secret key
@@ -69,9 +70,9 @@ writtenShare S F i Y x w = recordBytes (writtenShareRecord S F i Y x w)
 unfoldable pub writeShareChecks : Setting → ShareForm → ℕ → ℕ → ℕ → ℕ → ℕ → List Check
 writeShareChecks S F i Y x w room =
     membersChecks S F i ++
-    (3 unless eqb room 32
-    ∷ 6 unless isElement (S .group) Y
-    ∷ 7 unless (isSecretKey (S .group) x && isExponent (S .group) w)
+    (badLength unless eqb room 32
+    ∷ noElement unless isElement (S .group) Y
+    ∷ noExponent unless (isSecretKey (S .group) x && isExponent (S .group) w)
     ∷ [])
 
 unfoldable pub writeShareIn : Setting → ShareForm → ℕ → ℕ → ℕ → ℕ → ℕ → Outcome (Unit {0})
@@ -97,7 +98,7 @@ shareRecomputed S F i y Y r =
 
 -- 32 bytes, a key and an element
 unfoldable pub shareInputChecks : Group → ℕ → ℕ → List ℕ → List Check
-shareInputChecks G y Y b = 3 unless eqb (length b) 32 ∷ 6 unless (isKey G y && isElement G Y) ∷ []
+shareInputChecks G y Y b = badLength unless eqb (length b) 32 ∷ noElement unless (isKey G y && isElement G Y) ∷ []
 
 -- a record of a share of i in this form
 abbrev pub isShareFor : ShareForm → ℕ → Record → Bool
@@ -105,7 +106,7 @@ isShareFor F i r = isShareRecord (F .kind) r && (eqb (dealerOf r) (F .dealer) &&
 
 -- and then of that round
 unfoldable pub shareFormChecks : ℕ → ShareForm → ℕ → Record → List Check
-shareFormChecks round F i r = 4 unless isShareFor F i r ∷ 17 unless isOfRound round r ∷ []
+shareFormChecks round F i r = badForm unless isShareFor F i r ∷ otherRound unless isOfRound round r ∷ []
 
 -- all that comes before the figures: on a board it is settled before shares are judged
 unfoldable pub shareAdmissionChecks : Setting → ShareForm → ℕ → ℕ → ℕ → List ℕ → List Check
@@ -113,9 +114,9 @@ shareAdmissionChecks S F i y Y b = membersChecks S F i ++ shareInputChecks (S .g
 
 unfoldable pub shareFigureChecks : Setting → ShareForm → ℕ → ℕ → ℕ → Record → List Check
 shareFigureChecks S F i y Y r =
-    6 unless isElement (S .group) (ZOf r)
-    ∷ 7 unless (isExponent (S .group) (shareC r) && isExponent (S .group) (shareR r))
-    ∷ 10 unless eqb (shareC r) (shareRecomputed S F i y Y r)
+    noElement unless isElement (S .group) (ZOf r)
+    ∷ noExponent unless (isExponent (S .group) (shareC r) && isExponent (S .group) (shareR r))
+    ∷ proofFails unless eqb (shareC r) (shareRecomputed S F i y Y r)
     ∷ []
 
 abbrev pub judgeShareChecks : Setting → ShareForm → ℕ → ℕ → ℕ → List ℕ → List Check

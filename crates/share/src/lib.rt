@@ -5,6 +5,7 @@ mod writer;
 
 pub use form::added_form;
 pub use form::opened_form;
+use group::Element;
 pub use judge::judge_added;
 pub use judge::judge_share;
 pub use judge::judge_share_figures;
@@ -16,4 +17,12 @@ pub struct ShareForm {
     pub tag: u8,
     pub kind: u32,
     pub dealer: u32,
+}
+
+// An encrypted share, as a decrypted one is written from it and judged for it: the form of the decrypted one, the member, and the
+// encrypted share of his line, or for an added share the product of those of his lines over all accepted dealings.
+pub struct EncryptedShare {
+    pub form: ShareForm,
+    pub member: u32,
+    pub encrypted: Element,
 }

@@ -1,10 +1,10 @@
 -- What the checks of a table and a round settle: the setting is proper, and an operation over them does what it does in the setting.
--- Then quorums, and the members of a proper setting as nodes.
+-- Then quorums, the members of a proper setting as nodes, and its figures as words.
 use mathlib.Core.Path.{_≡_, sym, ap, _∙_, subst}
 use mathlib.Core.Bool.{Bool, true}
 use mathlib.Core.List.{List, _++_}
 use mathlib.Core.Logic.{_↔_}
-use Prim.Native.Nat.{ℕ, _+_, _≤_}
+use Prim.Native.Nat.{ℕ, _+_, _^_, _≤_, _<_}
 use native.Mathlib.Omega.{arith}
 use borrow.Author.Tests.{ltb-true, leb-true, le-leb}
 use lib.ListN.{length}
@@ -17,8 +17,10 @@ use Rattle.words.proofs.Checks.{value-met}
 use Rattle.words.proofs.Stages.{met-both, rest-outcome, rest-choice, given-refused, given-value, given-kept, given-choice}
 use Rattle.field.specs.Claims.{Nodes}
 use Rattle.group.specs.Table.{groupsOf, tableChecks}
+use Rattle.group.specs.Element.{isElement}
+use Rattle.group.proofs.Elements.{element-true}
 use Rattle.group.proofs.Table.{group-sound, number-low}
-use Rattle.sharing.specs.Setting.{ProperSetting, settingIn, inRound, inRange, roundFigures, roundChecks, settingOutcomeOf, figuresOutcome, settingOutcome, judged, judgedElse, isMember, members}
+use Rattle.sharing.specs.Setting.{ProperSetting, OneGroup, settingIn, renumbered, inRound, inRange, roundFigures, roundChecks, settingOutcomeOf, figuresOutcome, settingOutcome, judged, judgedElse, isMember, members}
 use Rattle.sharing.specs.Answer.{isQuorum}
 use Rattle.sharing.specs.Carried.{Carries, Quorum}
 use Rattle.sharing.specs.declared.Round.{Round}
@@ -48,15 +50,19 @@ round-proper T R m =
       t-most = leb-true (S .t) (S .n) (d .1);
     }
 
--- ---- in the round of another number, under either rule
-module _ {S : Setting} (round : ℕ) (whole : Bool) where
-  pub proper-in-round : ProperSetting S → ProperSetting (inRound round whole S)
-  proper-in-round P =
+-- ---- under other numbers, of the group and of the round, and under either rule
+-- a setting of the same group, n and t is this one under its numbers
+pub of-one-group : (S T : Setting) → OneGroup S T → renumbered (T .number) (T .round) (T .«whole_digest») S ≡ T
+of-one-group S T E = λ j. record { group = E .group j; number = T .number; n = E .n j; t = E .t j; round = T .round; «whole_digest» = T .«whole_digest» }
+
+module _ {S : Setting} (number round : ℕ) (whole : Bool) where
+  pub renumbered-proper : ProperSetting S → number < 256 → ProperSetting (renumbered number round whole S)
+  renumbered-proper P low =
       record {
         proper = P .proper;
         p-word = P .p-word;
         q-word = P .q-word;
-        number-byte = P .number-byte;
+        number-byte = low;
         n-positive = P .n-positive;
         n-most = P .n-most;
         n-below = P .n-below;
@@ -64,8 +70,16 @@ module _ {S : Setting} (round : ℕ) (whole : Bool) where
         t-most = P .t-most;
       }
 
+  pub renumbered-carries : {f vs : List ℕ} → Carries (renumbered number round whole S) f vs → Carries S f vs
+  renumbered-carries K = record { polynomial = record { size = K .polynomial .size; low = K .polynomial .low }; powers = K .powers }
+
+-- in the round of another number
+module _ {S : Setting} (round : ℕ) (whole : Bool) where
+  pub proper-in-round : ProperSetting S → ProperSetting (inRound round whole S)
+  proper-in-round P = renumbered-proper (S .number) round whole P (P .number-byte)
+
   pub carries-in-round : {f vs : List ℕ} → Carries (inRound round whole S) f vs → Carries S f vs
-  carries-in-round K = record { polynomial = record { size = K .polynomial .size; low = K .polynomial .low }; powers = K .powers }
+  carries-in-round = renumbered-carries (S .number) round whole
 
 -- ---- an operation over a table and a round, where their checks do not refuse
 module _ {A : Type 0} (T : List ℕ) (R : Round) (checks : Setting → List Check) (answer : Setting → A) where
@@ -160,3 +174,14 @@ module _ {S : Setting} (Y : ProperSetting S) where
 
     pub quorum-nonzero : All (λ i. i ≡ 0 → ⊥) ms
     quorum-nonzero = All-to ms (λ i s e. omega (arith, s .0)) (Q .within)
+
+-- ---- figures are words
+module _ {S : Setting} (P : ProperSetting S) where
+  pub member-word : (i : ℕ) → i ≤ S .n → i < 2 ^ 32
+  member-word i h = omega (arith, P .n-most)
+
+  pub element-word : (v : ℕ) → isElement (S .group) v ≡ true → v < 2 ^ 32
+  element-word v e = omega (arith, element-true (S .group) v e .low, P .p-word)
+
+  pub exponent-word : (e : ℕ) → e < S .group .q → e < 2 ^ 32
+  exponent-word e h = omega (arith, P .q-word)

@@ -1,6 +1,6 @@
 -- The theorems of one dealing's commitments, of a round's two numbers and of the table, as specs/Claims.antt states them.
-use mathlib.Core.Path.{_≡_, refl, sym, ap, _∙_}
-use mathlib.Core.Bool.{true, false, not, _&&_}
+use mathlib.Core.Path.{_≡_, refl, sym, ap, _∙_, subst}
+use mathlib.Core.Bool.{Bool, true, false, not, _&&_}
 use mathlib.Core.List.{List, _++_}
 use mathlib.Core.Logic.{⊎-elim}
 use Prim.Native.Nat.{ℕ, zero, suc, _-_, _≤_, _<_}
@@ -14,14 +14,14 @@ use Rattle.group.specs.Power.{pow}
 use Rattle.group.specs.Table.{groupOf}
 use Rattle.group.specs.declared.Group.{Group}
 use Rattle.group.proofs.Table.{groups-outcome, groups-choice}
-use Rattle.sharing.specs.Setting.{ProperSetting, takesWhole, settingIn, inRound, withNumbers, roundFigures, roundChecks, judged, judgedElse}
+use Rattle.sharing.specs.Setting.{ProperSetting, takesWhole, settingIn, renumbered, inRound, withNumbers, roundFigures, roundChecks, judged, judgedElse}
 use Rattle.sharing.specs.Answer.{degreeProduct, degreeFigures, degreeEquation, degreeIn, degreeOutcome, isOpening, openingFigures, openingEquation, openingIn, openingOutcome, isQuorum, recoveryIn, recoveryOutcome}
 use Rattle.sharing.specs.Weights.{gapsAt, weightAt, weightsOf}
 use Rattle.sharing.specs.Carried.{Commitments, secretOf, unitOf, place}
-use Rattle.sharing.specs.Claims.{LinearCheck, AlwaysCarried, UncarriedOneValue, CarriedPasses, CarriedExactly, OpeningExactly, QuorumRecovers, SecretOfCommitments, RoundBySetting, InEveryRound, Rule, RuleAlone, GroupsAlone}
+use Rattle.sharing.specs.Claims.{LinearCheck, AlwaysCarried, UncarriedOneValue, CarriedPasses, CarriedExactly, OpeningExactly, QuorumRecovers, SecretOfCommitments, RoundBySetting, SameAnswers, OneGroupAnswers, Rule, RuleAlone, GroupsAlone}
 use Rattle.sharing.specs.declared.Setting.{Setting}
 use Rattle.sharing.proofs.Generators.{Exponents, exponents}
-use Rattle.sharing.proofs.Rounds.{round-proper, judged-in}
+use Rattle.sharing.proofs.Rounds.{round-proper, of-one-group, judged-in}
 use Rattle.sharing.proofs.Degree.{passes-exactly}
 use Rattle.sharing.proofs.Carried.{sums-carried, carried-commitments, carried-pass}
 use Rattle.sharing.proofs.Secret.{shares-recover, secret-opens, opens-secret}
@@ -80,9 +80,14 @@ round-by-setting T R m =
       recovery = λ ms ss. judged-in T R _ _ m;
     }
 
-pub in-every-round : InEveryRound
-unfolding degreeIn degreeFigures degreeEquation degreeProduct weightsOf weightAt gapsAt openingIn openingFigures openingEquation isOpening recoveryIn isQuorum
-in-every-round S round whole = record { degree = λ vs ds. refl; opening = λ vs u. refl; recovery = λ ms ss. refl }
+-- each is computed without the numbers and the rule
+renumbered-answers : (S : Setting) (number round : ℕ) (whole : Bool) → SameAnswers S (renumbered number round whole S)
+unfolding degreeIn degreeFigures degreeEquation degreeProduct weightsOf weightAt gapsAt openingIn openingFigures openingEquation isOpening recoveryIn isQuorum place
+renumbered-answers S number round whole =
+    record { degree = λ vs ds. refl; opening = λ vs u. refl; recovery = λ ms ss. refl; same-place = λ vs. refl }
+
+pub one-group-answers : OneGroupAnswers
+one-group-answers S T E = subst (SameAnswers S) (of-one-group S T E) (renumbered-answers S (T .number) (T .round) (T .«whole_digest»))
 
 -- ---- the rule
 pub rule : Rule
@@ -116,7 +121,7 @@ rule-alone T R first e =
 pub groups-alone : GroupsAlone
 unfolding judged judgedElse roundChecks
 groups-alone T₁ T₂ R m₁ m₂ e =
-    let among : List Group → Setting = λ Gs. record { group = groupOf Gs (R .group); number = R .group; n = R .n; t = R .t; round = R .round; whole = takesWhole (R .«first_new_round») (R .round) } in
+    let among : List Group → Setting = λ Gs. record { group = groupOf Gs (R .group); number = R .group; n = R .n; t = R .t; round = R .round; «whole_digest» = takesWhole (R .«first_new_round») (R .round) } in
     let figures : List Group → List Check = λ Gs. roundFigures Gs R in
     record {
       setting = ap among e;

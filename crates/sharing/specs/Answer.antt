@@ -5,7 +5,8 @@ use Prim.Native.Nat.{ℕ, _-_}
 use lib.Dec.{leb, eqb}
 use lib.ListN.{length, take}
 use Rattle.words.specs.Lists.{map, all, noneTwice}
-use Rattle.words.specs.Checks.{Check, _unless_, Outcome, value, refused, outcome}
+use Rattle.words.specs.Numbers.{badLength, noElement, noExponent, noMember, degreeFails, wrongOpening}
+use Rattle.words.specs.Checks.{Check, _unless_, Outcome, outcome}
 use Rattle.group.specs.Power.{pow}
 use Rattle.group.specs.Element.{isElement, isExponent}
 use Rattle.group.specs.declared.Element.{Element}
@@ -14,12 +15,6 @@ use Rattle.sharing.specs.Setting.{judged, isMember, members}
 use Rattle.sharing.specs.Weights.{weightsOf, lagrangeAt, powersProduct}
 use Rattle.sharing.specs.declared.Round.{Round}
 use Rattle.sharing.specs.declared.Setting.{Setting}
-use Rattle.sharing.specs.declared.CheckAnswer.{CheckAnswer}
-use Rattle.sharing.specs.declared.CheckAnswer.the-variants.{Passed, Refused}
-
-abbrev pub checkOutcomeOf : CheckAnswer → Outcome (Unit {0})
-checkOutcomeOf Passed = value tt
-checkOutcomeOf (Refused k) = refused k
 
 -- ---- degree check
 -- the product of the commitments to their weights
@@ -29,13 +24,13 @@ degreeProduct S vs ds = powersProduct (S .group .p) vs (weightsOf S ds)
 -- n commitments in the group, and a check polynomial of n - t coefficients below q
 unfoldable pub degreeFigures : Setting → List ℕ → List ℕ → List Check
 degreeFigures S vs ds =
-    3 unless (eqb (length vs) (S .n) && eqb (length ds) (S .n - S .t))
-    ∷ 6 unless all (isElement (S .group)) vs
-    ∷ 7 unless all (isExponent (S .group)) ds
+    badLength unless (eqb (length vs) (S .n) && eqb (length ds) (S .n - S .t))
+    ∷ noElement unless all (isElement (S .group)) vs
+    ∷ noExponent unless all (isExponent (S .group)) ds
     ∷ []
 
 unfoldable pub degreeEquation : Setting → List ℕ → List ℕ → List Check
-degreeEquation S vs ds = 9 unless eqb (degreeProduct S vs ds) 1 ∷ []
+degreeEquation S vs ds = degreeFails unless eqb (degreeProduct S vs ds) 1 ∷ []
 
 abbrev pub degreeChecks : Setting → List ℕ → List ℕ → List Check
 degreeChecks S vs ds = degreeFigures S vs ds ++ degreeEquation S vs ds
@@ -57,9 +52,9 @@ isQuorum S ms = leb (S .t) (length ms) && (all (isMember (S .n)) ms && noneTwice
 
 abbrev pub recoveryChecks : Setting → List ℕ → List ℕ → List Check
 recoveryChecks S ms ss =
-    3 unless eqb (length ms) (length ss)
-    ∷ 8 unless isQuorum S ms
-    ∷ 6 unless all (isElement (S .group)) ss
+    badLength unless eqb (length ms) (length ss)
+    ∷ noMember unless isQuorum S ms
+    ∷ noElement unless all (isElement (S .group)) ss
     ∷ []
 
 unfoldable pub recoveryIn : Setting → List ℕ → List ℕ → Outcome Element
@@ -76,13 +71,13 @@ isOpening S vs u = eqb (pow (S .group .p) (S .group .g .0) u) (recovered (S .gro
 -- n commitments in the group, and an exponent
 unfoldable pub openingFigures : Setting → List ℕ → ℕ → List Check
 openingFigures S vs u =
-    3 unless eqb (length vs) (S .n)
-    ∷ 6 unless all (isElement (S .group)) vs
-    ∷ 7 unless isExponent (S .group) u
+    badLength unless eqb (length vs) (S .n)
+    ∷ noElement unless all (isElement (S .group)) vs
+    ∷ noExponent unless isExponent (S .group) u
     ∷ []
 
 unfoldable pub openingEquation : Setting → List ℕ → ℕ → List Check
-openingEquation S vs u = 11 unless isOpening S vs u ∷ []
+openingEquation S vs u = wrongOpening unless isOpening S vs u ∷ []
 
 abbrev pub openingChecks : Setting → List ℕ → ℕ → List Check
 openingChecks S vs u = openingFigures S vs u ++ openingEquation S vs u

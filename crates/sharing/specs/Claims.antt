@@ -1,21 +1,25 @@
 -- What is claimed of one dealing's commitments: the sentences of demand 3 that speak of one dealing, over the three
 -- operations' answers, for every proper setting. RoundBySetting reads them off for the tables and rounds whose checks
--- do not refuse. Then what is claimed of a round's two numbers, where they do not enter and the rule that they give, and of the table.
+-- do not refuse. Then what is claimed of a round's two numbers, where they do not enter and the rule that they give, of the table, and of
+-- sums of polynomials.
 use mathlib.Core.Path.{_≡_}
-use mathlib.Core.Bool.{Bool, true, false}
+use mathlib.Core.Bool.{true, false}
 use mathlib.Core.List.{List}
 use mathlib.Core.Logic.{_↔_}
 use Prim.Native.Nat.{ℕ, _-_, _≤_, _<_}
 use lib.ListN.{getD}
-use Rattle.words.specs.Lists.{Below, map}
+use Rattle.words.specs.Lists.{All, Below, map}
 use Rattle.words.specs.Checks.{Check, value, refused, Met}
 use Rattle.field.specs.Residue.{residueOps}
-use Rattle.field.specs.Polynomial.{dot}
+use Rattle.field.specs.Polynomial.{valueAt, dot}
 use Rattle.group.specs.Power.{pow}
 use Rattle.group.specs.Table.{groupsOf, tableChecks}
-use Rattle.sharing.specs.Setting.{ProperSetting, takesWhole, settingIn, inRound, withNumbers, roundChecks, judged, judgedElse}
+use Rattle.group.specs.Element.{isElement, Proper}
+use Rattle.group.specs.declared.Group.{Group}
+use Rattle.sharing.specs.Setting.{ProperSetting, OneGroup, takesWhole, settingIn, withNumbers, roundChecks, judged, judgedElse, members}
 use Rattle.sharing.specs.Answer.{degreeIn, openingIn, recoveryIn, degreeOutcome, openingOutcome, recoveryOutcome}
-use Rattle.sharing.specs.Carried.{Carries, Commitments, Quorum, TrueShares, secretOf, CheckPolynomial, Passes, unitOf, place, AgreeOff, sumsAt}
+use Rattle.sharing.specs.Carried.{Polynomial, Carries, Commitments, Quorum, TrueShares, secretOf, CheckPolynomial, Passes, unitOf, place, AgreeOff, sumsAt}
+use Rattle.sharing.specs.Sum.{productOf, sumOf}
 use Rattle.sharing.specs.declared.Round.{Round}
 use Rattle.sharing.specs.declared.Setting.{Setting}
 
@@ -88,14 +92,16 @@ pub record AnswersIn (S : Setting) (T : List ℕ) (R : Round) : Type 0 where
 abbrev pub RoundBySetting : Type 0
 RoundBySetting = (T : List ℕ) (R : Round) → Met (roundChecks T R) → AnswersIn (settingIn T R) T R
 
--- The three operations depend neither on the round's number nor on the rule.
-pub record AnswersInRound (round : ℕ) (whole : Bool) (S : Setting) : Type 0 where
-  pub degree : (vs ds : List ℕ) → degreeIn (inRound round whole S) vs ds ≡ degreeIn S vs ds
-  pub opening : (vs : List ℕ) (u : ℕ) → openingIn (inRound round whole S) vs u ≡ openingIn S vs u
-  pub recovery : (ms ss : List ℕ) → recoveryIn (inRound round whole S) ms ss ≡ recoveryIn S ms ss
+-- Nothing of a setting but group, n and t enters the three operations and the place that commitments fix: neither the group's number nor
+-- the round's nor the rule.
+pub record SameAnswers (S T : Setting) : Type 0 where
+  pub degree : (vs ds : List ℕ) → degreeIn S vs ds ≡ degreeIn T vs ds
+  pub opening : (vs : List ℕ) (u : ℕ) → openingIn S vs u ≡ openingIn T vs u
+  pub recovery : (ms ss : List ℕ) → recoveryIn S ms ss ≡ recoveryIn T ms ss
+  pub same-place : (vs : List ℕ) → place S vs ≡ place T vs
 
-abbrev pub InEveryRound : Type 0
-InEveryRound = (S : Setting) (round : ℕ) (whole : Bool) → AnswersInRound round whole S
+abbrev pub OneGroupAnswers : Type 0
+OneGroupAnswers = (S T : Setting) → OneGroup S T → SameAnswers S T
 
 -- ---- the rule by which digests give exponents
 -- It is new exactly if the first round under it is not 0 and the round is not below it; so never in round 0, and with 0 in no round.
@@ -126,3 +132,37 @@ RuleAlone =
 abbrev pub GroupsAlone : Type 1
 GroupsAlone =
     (T₁ T₂ : List ℕ) (R : Round) → Met (tableChecks T₁) → Met (tableChecks T₂) → groupsOf T₁ ≡ groupsOf T₂ → SameOver T₁ R T₂ R
+
+-- ---- sums of polynomials, and products of elements
+-- A sum of polynomials of degree below t is one: it has t coefficients below q.
+abbrev pub SumPolynomial : Type 0
+SumPolynomial = (S : Setting) → ProperSetting S → (fs : List (List ℕ)) → All (Polynomial S) fs → Polynomial S (sumOf S fs)
+
+-- The sum's value at any x is the sum of the values at x, in the exponent of any element b: b to the sum's value is the product of the
+-- b to the values.
+abbrev pub SumValue : Type 0
+SumValue =
+    (S : Setting) → ProperSetting S → (b : ℕ) → isElement (S .group) b ≡ true
+    → (ds : List ℕ) (f : ℕ → List ℕ) → All (λ d. Polynomial S (f d)) ds → (x : ℕ)
+    → pow (S .group .p) b (valueAt (S .group .q) (sumOf S (map f ds)) x)
+    ≡ productOf (S .group .p) (map (λ d. pow (S .group .p) b (valueAt (S .group .q) (f d) x)) ds)
+
+-- If for each d of a list the polynomial f d carries the commitments v d, the sum of the polynomials carries the commitments that are
+-- multiplied member by member.
+abbrev pub SumCarries : Type 0
+SumCarries =
+    (S : Setting) → ProperSetting S → (ds : List ℕ) (f : ℕ → List ℕ) (v : ℕ → ℕ → ℕ)
+    → All (λ d. Carries S (f d) (map (v d) (members (S .n)))) ds
+    → Carries S (sumOf S (map f ds)) (map (λ i. productOf (S .group .p) (map (λ d. v d i) ds)) (members (S .n)))
+
+-- h to the sum's value at 0 is the product of the h to the polynomials' values at 0.
+abbrev pub SumSecret : Type 0
+SumSecret =
+    (S : Setting) → ProperSetting S → (ds : List ℕ) (f : ℕ → List ℕ) → All (λ d. Polynomial S (f d)) ds
+    → pow (S .group .p) (S .group .h .0) (secretOf S (sumOf S (map f ds)))
+    ≡ productOf (S .group .p) (map (λ d. pow (S .group .p) (S .group .h .0) (secretOf S (f d))) ds)
+
+-- A product of elements is an element; that of none is 1.
+abbrev pub ProductsElement : Type 0
+ProductsElement =
+    (G : Group) → Proper G → (xs : List ℕ) → All (λ x. isElement G x ≡ true) xs → isElement G (productOf (G .p) xs) ≡ true

@@ -1,9 +1,11 @@
--- A table of groups and a round's figures as they are lent, the checks by which every operation begins, and the setting that they leave.
+-- A table of groups and a round's figures as they are lent, the checks by which operations over a round begin, and the setting that they leave.
+use mathlib.Core.Path.{_≡_}
 use mathlib.Core.Bool.{Bool, not, _&&_}
 use mathlib.Core.List.{List, [], _∷_, _++_}
 use Prim.Native.Nat.{ℕ, _^_, _≤_, _<_}
 use lib.Dec.{leb, ltb, eqb}
 use Rattle.words.specs.Lists.{upFrom}
+use Rattle.words.specs.Numbers.{unknownGroup, outOfRange}
 use Rattle.words.specs.Checks.{Check, _unless_, Outcome, value, refused, outcome, ifMet}
 use Rattle.group.specs.Table.{groupsOf, tableChecks, isGroup, groupOf}
 use Rattle.group.specs.Element.{Proper}
@@ -26,6 +28,12 @@ pub record ProperSetting (S : Setting) : Type 0 where
   pub t-positive : 1 ≤ S .t
   pub t-most : S .t ≤ S .n
 
+-- two settings of one group, n and t; the group's number, the round's and the rule may differ
+pub record OneGroup (S T : Setting) : Type 0 where
+  pub group : S .group ≡ T .group
+  pub n : S .n ≡ T .n
+  pub t : S .t ≡ T .t
+
 -- ---- from a round
 -- the rule is new, and exponents come from the whole digest: the first round under it is not 0, and the round is not below it
 unfoldable pub takesWhole : ℕ → ℕ → Bool
@@ -34,11 +42,15 @@ takesWhole first round = not (eqb first 0) && leb first round
 -- T is the table's bytes
 abbrev pub settingIn : List ℕ → Round → Setting
 settingIn T R =
-    record { group = groupOf (groupsOf T) (R .group); number = R .group; n = R .n; t = R .t; round = R .round; whole = takesWhole (R .«first_new_round») (R .round) }
+    record { group = groupOf (groupsOf T) (R .group); number = R .group; n = R .n; t = R .t; round = R .round; «whole_digest» = takesWhole (R .«first_new_round») (R .round) }
+
+-- the same group, n and t, under another number of the group, in the round of another number, under either rule
+abbrev pub renumbered : ℕ → ℕ → Bool → Setting → Setting
+renumbered number round whole S = record { group = S .group; number = number; n = S .n; t = S .t; round = round; «whole_digest» = whole }
 
 -- the same setting in the round of another number, under either rule
 abbrev pub inRound : ℕ → Bool → Setting → Setting
-inRound round whole S = record { group = S .group; number = S .number; n = S .n; t = S .t; round = round; whole = whole }
+inRound round whole S = renumbered (S .number) round whole S
 
 -- the same round's figures with another number, and with another first round under the new rule
 abbrev pub withNumbers : ℕ → ℕ → Round → Round
@@ -50,7 +62,7 @@ inRange q n t = leb 1 n && (leb n 31 && (ltb n q && (leb 1 t && leb t n)))
 
 -- a round among the groups of an accepted table
 unfoldable pub roundFigures : List Group → Round → List Check
-roundFigures Gs R = 1 unless isGroup Gs (R .group) ∷ 2 unless inRange (groupOf Gs (R .group) .q) (R .n) (R .t) ∷ []
+roundFigures Gs R = unknownGroup unless isGroup Gs (R .group) ∷ outOfRange unless inRange (groupOf Gs (R .group) .q) (R .n) (R .t) ∷ []
 
 -- the table comes first
 unfoldable pub roundChecks : List ℕ → Round → List Check

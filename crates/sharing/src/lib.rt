@@ -1,10 +1,12 @@
 // One dealing's commitments: the degree check, the opening and recovery, each over a table and a round, and in their setting.
 ghost use mathlib.Core.Path.{_≡_};
-ghost use Rattle.words.specs.Choice.{pick};
-ghost use Rattle.words.specs.Checks.{value, refused};
+ghost use mathlib.Core.Bool.{_&&_};
+ghost use lib.Dec.{eqb};
+ghost use lib.ListN.{length};
+ghost use Rattle.words.specs.Checks.{checkOutcomeOf};
 ghost use Rattle.group.specs.Answer.{elementOutcomeOf};
 ghost use Rattle.sharing.specs.Setting.{ProperSetting};
-ghost use Rattle.sharing.specs.Answer.{checkOutcomeOf, degreeIn, degreeOutcome, openingIn, openingOutcome, recoveryIn, recoveryOutcome};
+ghost use Rattle.sharing.specs.Answer.{degreeIn, degreeOutcome, openingIn, openingOutcome, recoveryIn, recoveryOutcome};
 
 mod members;
 mod settings;
@@ -24,6 +26,9 @@ pub use settings::setting_of;
 pub use shares::opens;
 pub use shares::recovered_from;
 pub use weights::degree_passes;
+use words::CheckAnswer;
+use words::passed_if;
+use words::refusal;
 
 // A round's figures as they are lent, unjudged: the group's number, the number of members, the threshold, the round's number and
 // the first round whose exponents come from the whole digest, 0 for none.
@@ -44,7 +49,7 @@ pub struct Setting {
     pub n: u32,
     pub t: u32,
     pub round: u32,
-    pub whole: bool,
+    pub whole_digest: bool,
 }
 
 pub enum SettingAnswer {
@@ -52,21 +57,11 @@ pub enum SettingAnswer {
     Refused(u32),
 }
 
-// The answer of a check that yields no value.
-pub enum CheckAnswer {
-    Passed,
-    Refused(u32),
-}
-
-// The answer by the last test.
-pub fn passed_if(test: bool, number: u32) -> CheckAnswer
-    ensures { λ r. ⌜ checkOutcomeOf r ≡ pick test (value tt) (refused number) ⌝ }
+// Whether there are n commitments and m coefficients.
+fn sizes_fit(n: u32, m: u32, vs: &[u32], ds: &[u32]) -> bool
+    ensures { λ r. ⌜ r ≡ eqb (length (now (vs .entry))) n && eqb (length (now (ds .entry))) m ⌝ }
 {
-    if test {
-        CheckAnswer::Passed
-    } else {
-        CheckAnswer::Refused(number)
-    }
+    vs.len() == n as usize && ds.len() == m as usize
 }
 
 // The degree check in a setting: 3, 6, 7 and 9. Internal: callers ensure that the setting is proper.
@@ -74,19 +69,16 @@ pub fn degree_check_in(s: Setting, vs: &[u32], ds: &[u32]) -> CheckAnswer
     requires { ⌜ ProperSetting s ⌝ }
     ensures { λ r. ⌜ checkOutcomeOf r ≡ degreeIn s (now (vs .entry)) (now (ds .entry)) ⌝ }
 {
-    if vs.len() != s.n as usize {
-        return CheckAnswer::Refused(3);
-    }
-    if ds.len() != (s.n - s.t) as usize {
-        return CheckAnswer::Refused(3);
+    if !sizes_fit(s.n, s.n - s.t, vs, ds) {
+        return CheckAnswer::Refused(refusal::BAD_LENGTH);
     }
     if !all_elements(s.group, vs) {
-        return CheckAnswer::Refused(6);
+        return CheckAnswer::Refused(refusal::NO_ELEMENT);
     }
     if !all_exponents(s.group, ds) {
-        return CheckAnswer::Refused(7);
+        return CheckAnswer::Refused(refusal::NO_EXPONENT);
     }
-    passed_if(degree_passes(s, vs, ds), 9)
+    passed_if(degree_passes(s, vs, ds), refusal::DEGREE_FAILS)
 }
 
 // The degree check of the commitments vs by the check polynomial ds. Refused: as setting_of; 3 not n commitments or
@@ -106,15 +98,15 @@ pub fn opening_in(s: Setting, vs: &[u32], u: Exponent) -> CheckAnswer
     ensures { λ r. ⌜ checkOutcomeOf r ≡ openingIn s (now (vs .entry)) (u .0) ⌝ }
 {
     if vs.len() != s.n as usize {
-        return CheckAnswer::Refused(3);
+        return CheckAnswer::Refused(refusal::BAD_LENGTH);
     }
     if !all_elements(s.group, vs) {
-        return CheckAnswer::Refused(6);
+        return CheckAnswer::Refused(refusal::NO_ELEMENT);
     }
     if !is_exponent(s.group, u) {
-        return CheckAnswer::Refused(7);
+        return CheckAnswer::Refused(refusal::NO_EXPONENT);
     }
-    passed_if(opens(s, vs, u), 11)
+    passed_if(opens(s, vs, u), refusal::WRONG_OPENING)
 }
 
 // Whether u opens the commitments vs: g to the power u is what the first t of them give at 0. Refused: as
@@ -134,13 +126,13 @@ pub fn recovery_in(s: Setting, ms: &[u32], ss: &[u32]) -> ElementAnswer
     ensures { λ r. ⌜ elementOutcomeOf r ≡ recoveryIn s (now (ms .entry)) (now (ss .entry)) ⌝ }
 {
     if ms.len() != ss.len() {
-        return ElementAnswer::Refused(3);
+        return ElementAnswer::Refused(refusal::BAD_LENGTH);
     }
     if !is_quorum(s, ms) {
-        return ElementAnswer::Refused(8);
+        return ElementAnswer::Refused(refusal::NO_MEMBER);
     }
     if !all_elements(s.group, ss) {
-        return ElementAnswer::Refused(6);
+        return ElementAnswer::Refused(refusal::NO_ELEMENT);
     }
     ElementAnswer::Value(recovered_from(s.group, ms, ss))
 }

@@ -1,4 +1,4 @@
-// The setting of a table and a round, by whose checks every operation begins.
+// The setting that a table and a round's figures give.
 ghost use mathlib.Core.Path.{_≡_};
 ghost use Rattle.sharing.specs.Setting.{takesWhole, inRange, settingOutcomeOf, figuresOutcome, settingOutcome};
 use crate::Round;
@@ -7,6 +7,7 @@ use crate::SettingAnswer;
 use group::GroupAnswer;
 use group::group_in;
 use group::table_refusal;
+use words::refusal;
 
 // n from 1 to 31 and below q, t from 1 to n
 fn in_range(q: u32, n: u32, t: u32) -> bool
@@ -37,15 +38,16 @@ fn takes_whole(first: u32, round: u32) -> bool
     first <= round
 }
 
-// The setting of a round by a table that has been judged before. Refused: 1 no group of that number; 2 n or t outside its range.
+// Judges a round's figures, and answers the setting. Refused: 1 no group of that number; 2 n or t outside its range.
+// Internal: callers have judged the table.
 pub fn setting_in(table: &[u8], rd: Round) -> SettingAnswer
     ensures { λ r. ⌜ settingOutcomeOf r ≡ figuresOutcome (now (table .entry)) rd ⌝ }
 {
     let GroupAnswer::Value(gr) = group_in(table, rd.group) else {
-        return SettingAnswer::Refused(1);
+        return SettingAnswer::Refused(refusal::UNKNOWN_GROUP);
     };
     if !in_range(gr.q, rd.n, rd.t) {
-        return SettingAnswer::Refused(2);
+        return SettingAnswer::Refused(refusal::OUT_OF_RANGE);
     }
     SettingAnswer::Value(Setting {
         group: gr,
@@ -53,12 +55,12 @@ pub fn setting_in(table: &[u8], rd: Round) -> SettingAnswer
         n: rd.n,
         t: rd.t,
         round: rd.round,
-        whole: takes_whole(rd.first_new_round, rd.round),
+        whole_digest: takes_whole(rd.first_new_round, rd.round),
     })
 }
 
-// The setting of a round: nothing else judges the table or looks the group up. Refused: 3, 4, 20 and 21 the table, as table_refusal; 1 no
-// group of that number; 2 n or t outside its range.
+// Judges the table and a round's figures, and answers the setting. Refused: 3, 4, 20 and 21 the table, as table_refusal; 1 no group of that
+// number; 2 n or t outside its range.
 pub fn setting_of(table: &[u8], rd: Round) -> SettingAnswer
     ensures { λ r. ⌜ settingOutcomeOf r ≡ settingOutcome (now (table .entry)) rd ⌝ }
 {

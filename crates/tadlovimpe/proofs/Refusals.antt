@@ -1,6 +1,6 @@
 -- Proofs of what specs/Claims.antt states. Two facts carry them: an answer goes by cases on its outcome, and no check has the number 0.
 use mathlib.Core.Path.{_≡_, refl, sym, ap, _∙_}
-use mathlib.Core.List.{List, _++_, append-assoc}
+use mathlib.Core.List.{List, _++_}
 use mathlib.Core.Logic.{⊎-elim}
 use Prim.Native.Nat.{ℕ, _<_}
 use native.Mathlib.Omega.{arith}
@@ -8,16 +8,17 @@ use lib.ListN.{length}
 use Rattle.words.specs.Lists.{map}
 use Rattle.words.specs.Checks.{Check, Outcome, value, refused, outcome, FirstUnmet, Numbered}
 use Rattle.words.proofs.Lists.{All-append}
-use Rattle.words.proofs.Checks.{decided, first-numbered, value-exactly, refused-exactly, if-unmet}
-use Rattle.words.proofs.Stages.{front-outcome}
+use Rattle.words.proofs.Checks.{decided, first-numbered, value-exactly, refused-exactly}
 use Rattle.group.specs.Table.{groupsOf, tableChecks}
 use Rattle.group.specs.declared.Element.{Element}
 use Rattle.group.proofs.Turns.{table-numbered}
-use Rattle.sharing.specs.Setting.{settingIn, roundFigures, roundChecks, judged, judgedElse}
+use Rattle.sharing.specs.Setting.{settingIn, roundFigures, roundChecks, judged}
 use Rattle.sharing.specs.declared.Round.{Round}
-use Rattle.board.specs.Board.{boardChecks, linesChecks, linesOutcome, linesPart, linesAt}
+use Rattle.board.specs.Board.{linesChecks, linesOutcome, linesPart, linesAt}
 use Rattle.board.proofs.Numbers.{form-numbered}
-use Rattle.verdicts.specs.Draw.{drawChecks, drawValue, drawOn}
+use Rattle.verdicts.specs.Draw.{drawOutcome}
+use Rattle.rulings.specs.Ruling.{refusedBoard}
+use Rattle.rulings.proofs.Reached.{unmet-judged}
 use Rattle.tadlovimpe.specs.Figures.{answerOf, partOf, placeOf}
 use Rattle.tadlovimpe.specs.Claims.{AnswerRefused, PartRefused, PartExactly, BoardRefused, BoardUnmet}
 
@@ -35,7 +36,7 @@ part-refused T R d b = by-outcome (linesOutcome T R d b) (linesAt T R d b) (leng
     by-outcome (refused k) start bytes n = (refl, refl)
 
 pub board-refused : BoardRefused
-board-refused J T R b = answer-refused (drawOn J T R b)
+board-refused J T R b = answer-refused (drawOutcome J T R b)
 
 -- ---- a part with the number 0
 round-numbered : (T : List ℕ) (R : Round) → Numbered (roundChecks T R)
@@ -74,15 +75,11 @@ part-exactly T R d b =
 
 -- ---- a board that is refused before its verdicts
 pub board-unmet : BoardUnmet
-unfolding drawOn judged judgedElse
+unfolding refusedBoard
 board-unmet J T R b k u =
-    let S = settingIn T R in
-    let rs = roundChecks T R in
-    let cs = boardChecks S b in
-    let ds = drawChecks J S b in
-    let o = front-outcome (rs ++ cs) ds k u (drawValue J S b) ∙ ap (λ (l : List Check). outcome l (drawValue J S b)) (append-assoc rs cs ds) in
+    let j = unmet-judged J T R b k u refl in
     record {
-      number = ap (λ (x : Outcome Element). answerOf x .refusal) (sym o);
-      none-counted = if-unmet _ 0 (rs ++ cs) k u;
-      none-judged = ap (map placeOf) (if-unmet _ _ (rs ++ cs) k u);
+      number = ap (λ (x : Outcome Element). answerOf x .refusal) (sym (j .draw));
+      none-counted = sym (j .accepted);
+      none-judged = ap (map placeOf) (sym (j .verdicts));
     }

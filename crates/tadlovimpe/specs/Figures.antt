@@ -6,17 +6,16 @@ use Rattle.words.specs.Lists.{map}
 use Rattle.words.specs.Checks.{Outcome, value, refused}
 use Rattle.group.specs.declared.Element.{Element}
 use Rattle.group.specs.declared.Exponent.{Exponent}
-use Rattle.sharing.specs.Setting.{judgedElse}
 use Rattle.sharing.specs.declared.Round.{Round}
 use Rattle.equality.specs.declared.Equality.{Equality}
-use Rattle.board.specs.Board.{boardChecks, linesOutcome, linesPart, linesAt}
+use Rattle.board.specs.Board.{linesOutcome, linesPart, linesAt}
 use Rattle.verdicts.specs.Shares.{Judges}
-use Rattle.verdicts.specs.Verdict.{verdictOn, verdictsOn}
-use Rattle.verdicts.specs.Draw.{countAccepted, drawOn, verdictPlaces, noVerdicts}
+use Rattle.verdicts.specs.Draw.{drawOutcome}
 use Rattle.verdicts.specs.declared.Secret.the-variants.{Opened, Recovered, Stuck}
 use Rattle.verdicts.specs.declared.Verdict.{Verdict}
 use Rattle.verdicts.specs.declared.Verdict.the-variants.{None, Refused, Accepted}
 use Rattle.verdicts.specs.declared.DealerVerdict.{DealerVerdict}
+use Rattle.rulings.specs.Ruling.{countOn, placesOn}
 use Rattle.tadlovimpe.specs.declared.Answer.{Answer}
 use Rattle.tadlovimpe.specs.declared.Part.{Part}
 use Rattle.tadlovimpe.specs.declared.Proof.{Proof}
@@ -77,12 +76,6 @@ abbrev pub boardOf : Outcome Element → ℕ → List DealerVerdict → BoardAns
 boardOf draw count places =
     record { refusal = answerOf draw .refusal; value = answerOf draw .value; accepted = count; verdicts = map placeOf places }
 
--- the count and the verdicts: none where a check before the verdicts refuses
-abbrev pub countOn : Judges → List ℕ → Round → List ℕ → ℕ
-countOn J T R b = judgedElse T R (λ S. boardChecks S b) (λ S. countAccepted (verdictsOn J S b)) 0
-
-abbrev pub placesOn : Judges → List ℕ → Round → List ℕ → List DealerVerdict
-placesOn J T R b = judgedElse T R (λ S. boardChecks S b) (λ S. verdictPlaces (verdictOn J S b) (S .n)) noVerdicts
-
+-- what judge_board answers, over a table, a round and a board
 abbrev pub boardOn : Judges → List ℕ → Round → List ℕ → BoardAnswer
-boardOn J T R b = boardOf (drawOn J T R b) (countOn J T R b) (placesOn J T R b)
+boardOn J T R b = boardOf (drawOutcome J T R b) (countOn J T R b) (placesOn J T R b)

@@ -1,16 +1,16 @@
 // The operations' answers as figures.
 ghost use mathlib.Core.Path.{_≡_};
 ghost use Rattle.words.specs.Lists.{map};
+ghost use Rattle.words.specs.Checks.{checkOutcomeOf};
 ghost use Rattle.group.specs.Answer.{elementOutcomeOf};
-ghost use Rattle.sharing.specs.Answer.{checkOutcomeOf};
 ghost use Rattle.tadlovimpe.specs.Figures.{numberOf, answerOf, verdictOf, placeOf};
 use crate::Answer;
 use crate::VerdictFigures;
 use group::ElementAnswer;
-use sharing::CheckAnswer;
 use verdicts::DealerVerdict;
 use verdicts::Secret;
 use verdicts::Verdict;
+use words::CheckAnswer;
 
 pub(crate) fn number_of(a: CheckAnswer) -> u32
     ensures { λ r. ⌜ r ≡ numberOf (checkOutcomeOf a) ⌝ }

@@ -15,8 +15,8 @@ use board::lines_check;
 use board::lines_of;
 use board::place_of;
 use records::LINE;
-use sharing::CheckAnswer;
 use sharing::Round;
+use words::CheckAnswer;
 
 // board::lines_check
 #[no_mangle]
@@ -59,12 +59,12 @@ pub extern "C" fn tadlovimpe_dealer_lines(
     }
 }
 
-// verdicts::judge_board
+// rulings::judge_board
 #[no_mangle]
 pub extern "C" fn tadlovimpe_judge_board(table: &[u8], round: Round, board: &[u8]) -> BoardAnswer
     ensures { λ r. ⌜ r ≡ boardOn judges (now (table .entry)) round (now (board .entry)) ⌝ }
 {
-    let judged = verdicts::judge_board(table, round, board);
+    let judged = rulings::judge_board(table, round, board);
     let places = judged.verdicts;
     let draw = judged.draw;
     let a = answer_of(draw);

@@ -20,7 +20,8 @@ use Rattle.verdicts.specs.declared.Secret.{Secret}
 use Rattle.verdicts.specs.declared.Secret.the-variants.{Opened, Recovered, Stuck}
 use Rattle.verdicts.specs.declared.Verdict.{Verdict}
 use Rattle.verdicts.specs.declared.Verdict.the-variants.{None, Refused, Accepted}
-use Rattle.text.specs.Text.{figure, newLine, dealerWord, openedWord, recoveredWord, refusedWord, roundWord, acceptedWord, drawWord, secretText, verdictText, dealerLine, dealerLines, refusedLine, drawLine, roundLine, acceptedLine, textOf, report, boardText, fileChecks, roundIn, drawText}
+use Rattle.rulings.specs.Files.{roundIn, fileChecks}
+use Rattle.text.specs.Text.{figure, newLine, dealerWord, openedWord, recoveredWord, refusedWord, roundWord, acceptedWord, drawWord, secretText, verdictText, dealerLine, dealerLines, refusedLine, drawLine, roundLine, acceptedLine, textOf, report, boardText, drawText}
 use Rattle.text.specs.Buffer.{Room}
 use Rattle.text.specs.Claims.{TextFits}
 use Rattle.text.proofs.Decimals.{figure-most, short-figure}
@@ -127,13 +128,9 @@ text-fits J T s b =
     text-most (outcome (fileChecks T s) (boardText J T (roundIn s) b))
     λ t e. outcome-most (fileChecks T s) (boardText J T (roundIn s) b) t (board-most J T (roundIn s) b) e
 
--- ---- room in a buffer of 1,024 bytes
-module _ (l : List ℕ) (e : length l ≡ 1024) where
-  pub refused-room : (k : ℕ) → Room 0 (refusedLine k) l
-  refused-room k = record { fits = omega (arith, refused-most k) }
-
-  pub report-room : (J : Judges) (S : Setting) (b : List ℕ) → ProperSetting S → Room 0 (report J S b) l
-  report-room J S b P = record { fits = omega (arith, report-most J S b P) }
+-- ---- in a buffer of 1,024 bytes
+pub text-room : (l : List ℕ) → length l ≡ 1024 → (J : Judges) (T s b : List ℕ) → Room 0 (drawText J T s b) l
+text-room l e J T s b = record { fits = omega (arith, text-fits J T s b) }
 
 -- what `draw_text` answers is within the buffer
 pub text-within : (J : Judges) (T s b l m : List ℕ) (r : ℕ) → (r ≡ length (drawText J T s b)) × (m ≡ drawText J T s b ++ drop r l) → r ≤ length m

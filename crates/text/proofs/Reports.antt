@@ -1,35 +1,36 @@
--- What is written from the board judge's answer is the report on the board, and which text is due by what is refused.
-use mathlib.Core.Path.{_≡_, refl, sym, ap, _∙_}
-use mathlib.Core.List.{List, _++_}
-use Prim.Native.Nat.{ℕ, suc, _≤_, _<_}
+-- What is written from the ruling on a board is its text: the report where verdicts are reached, and else the refusal's line.
+use mathlib.Core.Path.{_≡_, sym, ap, _∙_}
+use mathlib.Core.List.{List, _++_, append-assoc}
+use mathlib.Core.Logic.{⊎-elim}
+use Prim.Native.Nat.{ℕ, suc, _≤_}
 use native.Mathlib.Omega.{arith}
 use borrow.Author.Tests.{le-leb}
 use lib.Dec.{leb}
 use Rattle.words.specs.Lists.{map, upFrom}
-use Rattle.words.specs.Checks.{Check, refusal, outcome, Met, Numbered}
-use Rattle.words.proofs.Lists.{All-to, All-append, take-map, map-comp, map-same, up-take, up-within}
+use Rattle.words.specs.Checks.{Check, outcome, Met, FirstUnmet}
+use Rattle.words.proofs.Lists.{All-to, take-map, map-comp, map-same, up-take, up-within}
 use Rattle.words.proofs.Tests.{pick-true}
-use Rattle.words.proofs.Checks.{value-exactly, none-exactly, numbered}
-use Rattle.words.proofs.Stages.{met-both, rest-outcome, front-outcome, last-refused}
+use Rattle.words.proofs.Checks.{decided, value-exactly, refused-exactly}
+use Rattle.words.proofs.Stages.{met-both, rest-outcome, behind-outcome, front-outcome}
 use Rattle.group.specs.Answer.{elementOutcomeOf}
-use Rattle.group.specs.Table.{tableChecks}
-use Rattle.group.proofs.Turns.{table-numbered}
-use Rattle.sharing.specs.Setting.{ProperSetting, settingOutcomeOf, figuresOutcome, settingOutcome, members}
+use Rattle.group.specs.Table.{groupsOf, tableChecks}
+use Rattle.sharing.specs.Setting.{settingIn, roundFigures, roundChecks, judged, members}
 use Rattle.sharing.specs.declared.Setting.{Setting}
-use Rattle.sharing.specs.declared.SettingAnswer.{SettingAnswer}
 use Rattle.sharing.specs.declared.SettingAnswer.the-variants.{Value, Refused}
-use Rattle.sharing.proofs.Rounds.{judged-refused, judged-value, figures-setting, setting-proper}
 use Rattle.sharing.proofs.Theorems.{groups-alone}
 use Rattle.board.specs.Board.{boardChecks}
 use Rattle.verdicts.specs.Shares.{Judges}
 use Rattle.verdicts.specs.Verdict.{verdictOn, verdictsOn}
-use Rattle.verdicts.specs.Draw.{drawChecks, drawValue, drawOf, drawIn, placeFor, verdictPlaces}
-use Rattle.verdicts.specs.Answered.{JudgementIn}
+use Rattle.verdicts.specs.Draw.{drawChecks, drawValue, reachedDraw, drawIn, placeFor, verdictPlaces, JudgementIn}
 use Rattle.verdicts.specs.declared.Verdict.{Verdict}
 use Rattle.verdicts.specs.declared.Verdict.the-variants.{None}
 use Rattle.verdicts.specs.declared.Judgement.{Judgement}
-use Rattle.text.specs.Text.{dealerLines, refusedLine, drawLine, roundLine, acceptedLine, textOf, report, boardTextIn, boardText, setChecks, roundIn, fileChecks, drawText}
-use Rattle.text.specs.Claims.{TableFirst, TextByGroups}
+use Rattle.rulings.specs.Files.{setChecks, roundIn, fileChecks}
+use Rattle.rulings.specs.Ruling.{RulingOf, rulingChecks}
+use Rattle.rulings.specs.declared.Ruling.{Ruling}
+use Rattle.rulings.proofs.Theorems.{ruling-reached, ruling-settled, ruling-refused}
+use Rattle.text.specs.Text.{dealerLines, refusedLine, drawLine, roundLine, acceptedLine, textOf, report, boardText, drawText}
+use Rattle.text.specs.Claims.{TextRefused, TableFirst, TextByGroups}
 use Rattle.text.specs.Report.{verdictAt, verdictsAt, reportFrom}
 
 -- the first n of the verdicts in the array
@@ -42,9 +43,9 @@ places-verdicts w n h =
     (All-to (members n) (λ d s. pick-true (leb d n) (w d) None (le-leb d n (omega (arith, s .1)))) (up-within 1 n (suc n) (omega arith)))
 
 -- ---- the report
-pub report-same : (J : Judges) (S : Setting) (b : List ℕ) (A : Judgement) → S .n ≤ 31 → Met (boardChecks S b) → JudgementIn J S b A
+report-same : (J : Judges) (S : Setting) (b : List ℕ) (A : Judgement) → S .n ≤ 31 → Met (boardChecks S b) → JudgementIn J S b A
     → reportFrom S A ≡ report J S b
-unfolding reportFrom report drawOf drawIn
+unfolding reportFrom report reachedDraw drawIn
 report-same J S b A h m a =
     let vs : verdictsAt (S .n) (A .verdicts) ≡ verdictsOn J S b =
     ap (verdictsAt (S .n)) (a .verdicts) ∙ places-verdicts (verdictOn J S b) (S .n) h in
@@ -54,39 +55,44 @@ report-same J S b A h m a =
 
 -- ---- the text by what is refused
 module _ (cs : List Check) (t : List ℕ) where
-  pub text-refused : {k : ℕ} → k ≡ refusal cs → (k ≡ 0 → ⊥) → textOf (outcome cs t) ≡ refusedLine k
-  text-refused e n = sym (ap textOf (last-refused cs e n t))
+  unmet-text : (k : ℕ) → FirstUnmet k cs → textOf (outcome cs t) ≡ refusedLine k
+  unmet-text k u = ap textOf (refused-exactly (List ℕ) cs t k .1 u)
 
   pub text-passed : Met cs → textOf (outcome cs t) ≡ t
   text-passed m = ap textOf (value-exactly (List ℕ) cs t .1 m)
 
--- both files are accepted where their function answers 0
-pub files-met : (T s : List ℕ) {k : ℕ} → k ≡ refusal (fileChecks T s) → k ≡ 0 → Met (fileChecks T s)
-files-met T s e z = none-exactly (fileChecks T s) n .0 (sym e ∙ z)
-  where
-    n : Numbered (fileChecks T s)
-    n = All-append (λ (c : Check). 0 < c .number) (tableChecks T) (setChecks s) (table-numbered T) (numbered (setChecks s) refl)
+-- all checks before the verdicts decide it
+pub text-ruled : (J : Judges) (T s b : List ℕ) → drawText J T s b ≡ textOf (outcome (rulingChecks T s b) (report J (settingIn T (roundIn s)) b))
+unfolding drawText boardText judged roundChecks
+text-ruled J T s b =
+    let fs = fileChecks T s in
+    let rs = roundFigures (groupsOf T) (roundIn s) in
+    let bs = boardChecks (settingIn T (roundIn s)) b in
+    let t = report J (settingIn T (roundIn s)) b in
+    ⊎-elim
+    (λ m.
+    text-passed fs (boardText J T (roundIn s) b) m
+    ∙ ap textOf (sym (behind-outcome (tableChecks T) rs bs (met-both (tableChecks T) (setChecks s) m .0) t) ∙ behind-outcome fs rs bs m t))
+    (λ u.
+    unmet-text fs (boardText J T (roundIn s) b) (u .0) (u .1)
+    ∙ ap textOf (front-outcome fs (rs ++ bs) (u .0) (u .1) t ∙ ap (λ (l : List Check). outcome l t) (sym (append-assoc fs rs bs))))
+    (decided fs)
 
--- by what the round of an accepted set gives, in an accepted table
-module _ (J : Judges) (T s b : List ℕ) (m : Met (fileChecks T s)) where
-  accepted : figuresOutcome T (roundIn s) ≡ settingOutcome T (roundIn s)
-  accepted = figures-setting T (roundIn s) (met-both (tableChecks T) (setChecks s) m .0)
+pub text-refused : TextRefused
+text-refused J T s b k u = text-ruled J T s b ∙ unmet-text (rulingChecks T s b) _ k u
 
-  passed-to : drawText J T s b ≡ boardText J T (roundIn s) b
-  unfolding drawText
-  passed-to = text-passed (fileChecks T s) (boardText J T (roundIn s) b) m
+-- ---- the text by the ruling
+module _ (J : Judges) (T s b : List ℕ) (A : Ruling) (I : RulingOf J T s b A) where
+  pub refused-text : {k : ℕ} → A .setting ≡ Refused k → drawText J T s b ≡ refusedLine k
+  refused-text {k} f = text-ruled J T s b ∙ unmet-text (rulingChecks T s b) _ k (ruling-refused J T s b A I k .1 f)
 
-  module _ {r : SettingAnswer} (e : settingOutcomeOf r ≡ figuresOutcome T (roundIn s)) where
-    pub round-refused : {k : ℕ} → r ≡ Refused k → drawText J T s b ≡ refusedLine k
-    unfolding boardText
-    round-refused f = passed-to ∙ sym (ap textOf (judged-refused T (roundIn s) _ _ (e ∙ accepted) f))
-
-    pub round-passed : {S : Setting} → r ≡ Value S → drawText J T s b ≡ boardTextIn J S b
-    unfolding boardTextIn boardText
-    round-passed f = passed-to ∙ sym (ap textOf (judged-value T (roundIn s) _ _ (e ∙ accepted) f))
-
-    pub round-proper : {S : Setting} → r ≡ Value S → ProperSetting S
-    round-proper f = setting-proper T (roundIn s) (e ∙ accepted) f
+  pub reported-text : {S : Setting} → A .setting ≡ Value S → drawText J T s b ≡ reportFrom S (A .judgement)
+  reported-text {S} f =
+      let w = ruling-settled J T s b A I S f in
+      text-ruled J T s b
+      ∙ text-passed (rulingChecks T s b) _ (ruling-reached J T s b A I .1 (f ∙ ap Value (w .setting)))
+      ∙ ap (λ (X : Setting). report J X b) (sym (w .setting))
+      ∙ sym (report-same J S b (A .judgement) (w .proper .n-most) (w .reached) (w .judgement))
 
 -- ---- the table
 pub table-first : TableFirst

@@ -8,11 +8,16 @@ use Rattle.words.specs.Bytes.{recordBytes}
 use Rattle.group.specs.Table.{groupsOf, tableChecks}
 use Rattle.records.specs.Layout.{keyLayout, setLayout}
 use Rattle.verdicts.specs.Shares.{Judges, judges}
+use Rattle.rulings.specs.Ruling.{rulingChecks}
 use Rattle.text.specs.Text.{refusedLine, drawText}
 
 -- no text is longer than 1,024 bytes
 abbrev pub TextFits : Type 0
 TextFits = (J : Judges) (T s b : List ℕ) → length (drawText J T s b) ≤ 1024
+
+-- where a check before the verdicts refuses, of the table, the set, their round or the board, its line is the whole text
+abbrev pub TextRefused : Type 0
+TextRefused = (J : Judges) (T s b : List ℕ) (k : ℕ) → FirstUnmet k (rulingChecks T s b) → drawText J T s b ≡ refusedLine k
 
 -- a table that is refused gives one line, whatever the other files hold
 abbrev pub TableFirst : Type 0

@@ -1,17 +1,13 @@
 -- What `draw` prints: the one place where the format of its output stands.
 use mathlib.Core.List.{List, [], _∷_, _++_}
 use Prim.Native.Nat.{ℕ, zero, suc, _+_, _/_, _%_}
-use lib.ListN.{length}
-use lib.Dec.{ltb, eqb}
+use lib.Dec.{ltb}
 use Rattle.words.specs.Choice.{pick}
-use Rattle.words.specs.Checks.{Check, _unless_, Outcome, value, refused, outcome}
-use Rattle.words.specs.Bytes.{recordIn}
-use Rattle.group.specs.Table.{tableChecks}
+use Rattle.words.specs.Checks.{Outcome, value, refused, outcome}
 use Rattle.group.specs.declared.Element.{Element}
 use Rattle.sharing.specs.Setting.{judged}
 use Rattle.sharing.specs.declared.Round.{Round}
 use Rattle.sharing.specs.declared.Setting.{Setting}
-use Rattle.records.specs.Layout.{setGroup, setN, setT, setRound, setFirst, isSetRecord}
 use Rattle.board.specs.Board.{boardChecks}
 use Rattle.verdicts.specs.Shares.{Judges}
 use Rattle.verdicts.specs.Verdict.{verdictsOn}
@@ -20,6 +16,7 @@ use Rattle.verdicts.specs.declared.Secret.{Secret}
 use Rattle.verdicts.specs.declared.Secret.the-variants.{Opened, Recovered, Stuck}
 use Rattle.verdicts.specs.declared.Verdict.{Verdict}
 use Rattle.verdicts.specs.declared.Verdict.the-variants.{None, Refused, Accepted}
+use Rattle.rulings.specs.Files.{roundIn, fileChecks}
 
 -- the decimal digits of v, which is below 10 to the power k
 unfoldable pub digits : ℕ → ℕ → List ℕ
@@ -112,30 +109,9 @@ unfoldable pub report : Judges → Setting → List ℕ → List ℕ
 report J S b =
     roundLine S ++ (dealerLines 1 (verdictsOn J S b) ++ (acceptedLine (countAccepted (verdictsOn J S b)) ++ drawLine (drawIn J S b)))
 
--- of a board, in a setting and over a table and a round
-unfoldable pub boardTextIn : Judges → Setting → List ℕ → List ℕ
-boardTextIn J S b = textOf (outcome (boardChecks S b) (report J S b))
-
+-- of a board, over a table and a round
 unfoldable pub boardText : Judges → List ℕ → Round → List ℕ → List ℕ
 boardText J T R b = textOf (judged T R (λ S. boardChecks S b) (λ S. report J S b))
-
--- ---- round.set: one record
--- another length by 3, another shape by 4
-abbrev pub setChecks : List ℕ → List Check
-setChecks s =
-    3 unless eqb (length s) 32
-    ∷ 4 unless isSetRecord (recordIn s)
-    ∷ []
-
--- the round of its record
-abbrev pub roundIn : List ℕ → Round
-roundIn s =
-    let r = recordIn s in
-    record { group = setGroup r; n = setN r; t = setT r; round = setRound r; «first_new_round» = setFirst r }
-
--- ---- the files: groups.tab comes first
-abbrev pub fileChecks : List ℕ → List ℕ → List Check
-fileChecks T s = tableChecks T ++ setChecks s
 
 -- of the bytes of groups.tab, round.set and board.bin
 unfoldable pub drawText : Judges → List ℕ → List ℕ → List ℕ → List ℕ

@@ -11,7 +11,7 @@ use lib.ListN.{length, getD, take, replicate, length-append, length-take, length
 use lib.Seq.{getD-take}
 use lib.Dec.{eqb}
 use Rattle.words.specs.Choice.{pick}
-use Rattle.words.specs.Lists.{map, all, filled}
+use Rattle.words.specs.Lists.{map, all, filled, entry}
 use Rattle.words.specs.Checks.{Outcome, value, refused, isValue, Met}
 use Rattle.words.proofs.Lists.{All-to, map-all, map-length, map-same, up-length}
 use Rattle.words.proofs.Tests.{true-all, and-true}
@@ -20,11 +20,9 @@ use Rattle.field.specs.Residue.{mul}
 use Rattle.group.specs.Element.{isElement}
 use Rattle.sharing.specs.Setting.{ProperSetting, members}
 use Rattle.sharing.specs.declared.Setting.{Setting}
-use Rattle.sums.proofs.Sums.{products-element}
-use Rattle.records.specs.Layout.{entry}
-use Rattle.records.proofs.Members.{each-members, members-front}
-use Rattle.dealing.specs.Dealing.{YIn}
-use Rattle.dealing.proofs.Entries.{member-entry, entries-front}
+use Rattle.sharing.proofs.EachMember.{each-members, members-front, member-entry, entries-front}
+use Rattle.sharing.proofs.Sums.{products-element}
+use Rattle.lines.specs.Lines.{YIn}
 use Rattle.dealing.proofs.Judged.{dealing-exactly}
 use Rattle.share.specs.Share.{addedForm, isDealer}
 use Rattle.board.specs.Search.{filter}

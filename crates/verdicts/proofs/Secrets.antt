@@ -6,7 +6,7 @@ use mathlib.Core.List.{List}
 use mathlib.Core.Logic.{inl}
 use Prim.Native.Nat.{ℕ, _<_, _≤_}
 use native.Mathlib.Omega.{arith}
-use borrow.Author.Tests.{lt-ltb, le-ltb, ltb-true, le-leb, lt-leb, eq-eqb}
+use borrow.Author.Tests.{lt-ltb, ltb-true, le-leb, lt-leb, eq-eqb}
 use lib.ListN.{length, take, length-take}
 use lib.Dec.{leb, ltb}
 use Rattle.words.specs.Choice.{pick}
@@ -25,11 +25,11 @@ use Rattle.sharing.specs.Setting.{members}
 use Rattle.sharing.specs.Answer.{openingFigures, openingEquation, openingIn, isOpening, recovered}
 use Rattle.sharing.specs.Carried.{Commitments}
 use Rattle.sharing.specs.declared.Setting.{Setting}
+use Rattle.sharing.proofs.EachMember.{members-front, each-members, member-exactly}
 use Rattle.records.specs.Layout.{memberOf, uOf, ZOf}
-use Rattle.records.proofs.Members.{members-front, each-members, member-exactly}
-use Rattle.dealing.specs.Dealing.{vIn, YIn, vsIn}
-use Rattle.dealing.specs.Columns.{columnsOf}
-use Rattle.dealing.specs.declared.Columns.{Columns}
+use Rattle.lines.specs.Lines.{vIn, YIn, vsIn}
+use Rattle.lines.specs.Columns.{columnsOf}
+use Rattle.lines.specs.declared.Columns.{Columns}
 use Rattle.dealing.proofs.Judged.{dealing-exactly, accepted-passes}
 use Rattle.share.specs.Share.{openedForm, isDealer}
 use Rattle.share.specs.declared.ShareForm.{ShareForm}
@@ -120,19 +120,28 @@ opening-decided S vs u C = simp (eq-eqb (length vs) (S .n) (C .size), C .element
     by-test true false = refl
     by-test false y = refl
 
+-- the record at this place, where there is one, holds an opening that is accepted for vs
+abbrev pub openedAt : Setting → List ℕ → List ℕ → ℕ → Bool
+openedAt S vs b at = ltb at (recordsIn b) && isValue (openingIn S vs (uOf (recordAt b at)))
+
+module _ (S : Setting) (vs : List ℕ) (C : Commitments S vs) (b : List ℕ) (at : ℕ) (h : at < recordsIn b) {u : ℕ} (e : u ≡ uOf (recordAt b at)) where
+  told : isExponent (S .group) u && isOpening S vs u ≡ openedAt S vs b at
+  told =
+      (λ j. isExponent (S .group) (e j) && isOpening S vs (e j))
+      ∙ sym (opening-decided S vs (uOf (recordAt b at)) C)
+      ∙ sym (ap (λ (t : Bool). t && isValue (openingIn S vs (uOf (recordAt b at)))) (lt-ltb at (recordsIn b) h))
+
+  pub opening-high : isExponent (S .group) u ≡ false → false ≡ openedAt S vs b at
+  opening-high f = sym (ap (λ (t : Bool). t && isOpening S vs u) f) ∙ told
+
+  pub opening-equal : isExponent (S .group) u ≡ true → isOpening S vs u ≡ openedAt S vs b at
+  opening-equal f = sym (ap (λ (t : Bool). t && isOpening S vs u) f) ∙ told
+
 module _ (S : Setting) (b : List ℕ) (d : ℕ) where
   abbrev opening : ℕ
   opening = uOf (recordAt b (openingPlace b d))
 
-  pub opened-none : recordsIn b ≤ openingPlace b d → false ≡ isOpened S b d
-  unfolding isOpened
-  opened-none h = sym (ap (λ (t : Bool). t && isValue (openingIn S (commitmentsOf S b d) opening)) (le-ltb (openingPlace b d) (recordsIn b) h))
-
   -- the first n places of a column hold the figures of his lines
-  pub commitments-count : {vs : List ℕ} → vs ≡ commitmentsOf S b d → length vs ≡ S .n
-  unfolding vsIn
-  commitments-count v = ap length v ∙ map-length (vIn (linesOf b d)) (members (S .n)) ∙ up-length 1 (S .n)
-
   pub encrypted-count : {Ys : List ℕ} → Ys ≡ encryptedOf S b d → length Ys ≡ S .n
   unfolding encryptedOf
   encrypted-count Y = ap length Y ∙ map-length (YIn (linesOf b d)) (members (S .n)) ∙ up-length 1 (S .n)
@@ -167,21 +176,13 @@ module _ (S : Setting) (b : List ℕ) (d : ℕ) where
             (each-members (λ i. isElement (S .group) (YIn (linesOf b d) i) ≡ true) (S .n) (λ i h l. posted .lines i h l .Y-element)));
       }
 
-  module _ (L : LinesOn S b d) (h : openingPlace b d < recordsIn b) {u : ℕ} (e : u ≡ opening) where
-    told : isOpened S b d ≡ isExponent (S .group) u && isOpening S (commitmentsOf S b d) u
-    unfolding isOpened
-    told =
-        ap (λ (t : Bool). t && isValue (openingIn S (commitmentsOf S b d) opening)) (lt-ltb (openingPlace b d) (recordsIn b) h)
-        ∙ opening-decided S (commitmentsOf S b d) opening (accepted-passes S (L .proper) d (keysIn (S .n) b) (linesOf b d) (L .accepted) .0)
-        ∙ ap (λ (x : ℕ). isExponent (S .group) x && isOpening S (commitmentsOf S b d) x) (sym e)
+  pub lines-commitments : LinesOn S b d → {vs : List ℕ} → vs ≡ commitmentsOf S b d → Commitments S vs
+  lines-commitments L v = subst (Commitments S) (sym v) (accepted-passes S (L .proper) d (keysIn (S .n) b) (linesOf b d) (L .accepted) .0)
 
-    pub opened-high : isExponent (S .group) u ≡ false → false ≡ isOpened S b d
-    opened-high f = sym (told ∙ ap (λ (t : Bool). t && isOpening S (commitmentsOf S b d) u) f)
-
-    pub opened-told : isExponent (S .group) u ≡ true → {vs : List ℕ} → vs ≡ commitmentsOf S b d → isOpening S vs u ≡ isOpened S b d
-    opened-told f v =
-        ap (λ (l : List ℕ). isOpening S l u) v
-        ∙ sym (told ∙ ap (λ (t : Bool). t && isOpening S (commitmentsOf S b d) u) f)
+  -- whether it is opened, by the place that was found and the commitments in his lines
+  pub opened-told : {at : ℕ} {vs : List ℕ} {t : Bool} → at ≡ openingPlace b d → vs ≡ commitmentsOf S b d → t ≡ openedAt S vs b at → t ≡ isOpened S b d
+  unfolding isOpened
+  opened-told p v e = e ∙ (λ j. openedAt S (v j) b (p j))
 
   pub opening-inside : isOpened S b d ≡ true → openingPlace b d < recordsIn b
   unfolding isOpened

@@ -10,20 +10,20 @@ use borrow.Author.Tests.{eq-eqb, eqb-true}
 use lib.ListN.{take, drop, set, length-drop}
 use lib.Seq.{length-take-le}
 use lib.Dec.{eqb}
-use Rattle.words.specs.Lists.{upFrom}
+use Rattle.words.specs.Lists.{upFrom, entry}
 use Rattle.words.specs.Checks.{Met, value, isValue}
 use Rattle.words.specs.Bytes.{recordIn, recordsIn, recordAt}
 use Rattle.words.specs.declared.Record.{Record}
 use Rattle.words.proofs.Tests.{all-true, and-true, pick-true, pick-false}
 use Rattle.words.proofs.Checks.{value-met}
+use Rattle.words.proofs.Lists.{entry-all}
 use Rattle.group.specs.Answer.{elementOutcomeOf}
 use Rattle.group.specs.Element.{isElement}
 use Rattle.group.specs.declared.Element.{Element}
 use Rattle.group.specs.declared.ElementAnswer.{ElementAnswer}
 use Rattle.group.specs.declared.ElementAnswer.the-variants.{Value, Refused}
 use Rattle.sharing.specs.declared.Setting.{Setting}
-use Rattle.records.specs.Layout.{isShareRecord, dealerOf, memberOf, yOf, ZOf, entry}
-use Rattle.records.proofs.Members.{entry-all}
+use Rattle.records.specs.Layout.{isShareRecord, dealerOf, memberOf, yOf, ZOf}
 use Rattle.share.specs.Share.{judgeShareChecks, judgeShareFiguresIn, judgeShareIn}
 use Rattle.share.specs.Claims.{AdmittedShare}
 use Rattle.share.specs.declared.ShareForm.{ShareForm}

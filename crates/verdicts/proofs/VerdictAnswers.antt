@@ -7,17 +7,17 @@ use native.Mathlib.Omega.{arith}
 use borrow.Author.Tests.{eq-eqb, ne-eqb}
 use lib.ListN.{length}
 use lib.Dec.{eqb}
-use Rattle.words.specs.Checks.{Outcome, Met, outcome}
+use Rattle.words.specs.Checks.{Outcome, Met, outcome, checkOutcomeOf}
 use Rattle.words.specs.Bytes.{recordsIn}
 use Rattle.words.proofs.Lists.{map-length, up-length}
 use Rattle.words.proofs.Tests.{true-and, true-equal, pick-true, pick-false}
 use Rattle.sharing.specs.Setting.{ProperSetting, members}
-use Rattle.sharing.specs.Answer.{checkOutcomeOf}
-use Rattle.sharing.specs.declared.CheckAnswer.{CheckAnswer}
-use Rattle.sharing.specs.declared.CheckAnswer.the-variants as answer-variants
+use Rattle.words.specs.declared.CheckAnswer.{CheckAnswer}
+use Rattle.words.specs.declared.CheckAnswer.the-variants as answer-variants
 use Rattle.sharing.specs.declared.Setting.{Setting}
-use Rattle.records.proofs.Members.{members-exactly}
-use Rattle.dealing.specs.Dealing.{isLineFor, isLineOf, isLineOfRound, lineChecks, lineFigureChecks, judgeDealingIn}
+use Rattle.sharing.proofs.EachMember.{members-exactly}
+use Rattle.lines.specs.Lines.{isLineFor, isLineOf, isLineOfRound, lineChecks}
+use Rattle.dealing.specs.Dealing.{lineFigureChecks, judgeDealingIn}
 use Rattle.dealing.proofs.Settled.{FormedDealing}
 use Rattle.dealing.proofs.Judged.{figures-decide}
 use Rattle.board.specs.Board.{boardChecks, keyIn, keysIn, lineCount, linesOf}

@@ -4,8 +4,8 @@ use Prim.Native.Nat.{ℕ}
 use Rattle.words.specs.Lists.{map}
 use Rattle.sharing.specs.Setting.{members}
 use Rattle.sharing.specs.declared.Setting.{Setting}
-use Rattle.sums.specs.Sum.{productOf}
-use Rattle.dealing.specs.Dealing.{YIn}
+use Rattle.sharing.specs.Sum.{productOf}
+use Rattle.lines.specs.Lines.{YIn}
 use Rattle.share.specs.Share.{addedForm}
 use Rattle.board.specs.Search.{filter}
 use Rattle.board.specs.Board.{linesOf}

@@ -1,4 +1,4 @@
--- The count of accepted dealings, the draw value, and the board judge's answer.
+-- The count of accepted dealings, the draw value, and the answer where verdicts are reached.
 use mathlib.Core.Path.{_≡_}
 use mathlib.Core.Bool.{Bool, true, false}
 use mathlib.Core.List.{List, [], _∷_, _++_}
@@ -7,11 +7,12 @@ use lib.ListN.{length, take, replicate}
 use lib.Dec.{leb}
 use Rattle.words.specs.Choice.{pick}
 use Rattle.words.specs.Lists.{map, upFrom}
+use Rattle.words.specs.Numbers.{stillStuck, tooFew}
 use Rattle.words.specs.Checks.{Check, _unless_, Outcome, outcome}
 use Rattle.field.specs.Residue.{mul}
 use Rattle.group.specs.Answer.{elementOutcomeOf}
 use Rattle.group.specs.declared.Element.{Element}
-use Rattle.sharing.specs.Setting.{judged, judgedElse}
+use Rattle.sharing.specs.Setting.{judged}
 use Rattle.sharing.specs.declared.Round.{Round}
 use Rattle.sharing.specs.declared.Setting.{Setting}
 use Rattle.board.specs.Board.{boardChecks}
@@ -59,7 +60,7 @@ secretsProduct p (v ∷ vs) = timesSecret p v (secretsProduct p vs)
 -- ---- the draw
 -- 14 fewer than t accepted, then 13 a stuck dealing where fewer than t added shares are accepted
 abbrev pub endChecks : ℕ → ℕ → Bool → ℕ → List Check
-endChecks t accepted stuck added = 14 unless leb t accepted ∷ 13 unless pick stuck (leb t added) true ∷ []
+endChecks t accepted stuck added = tooFew unless leb t accepted ∷ stillStuck unless pick stuck (leb t added) true ∷ []
 
 abbrev pub drawChecks : Judges → Setting → List ℕ → List Check
 drawChecks J S b = let vs = verdictsOn J S b in endChecks (S .t) (countAccepted vs) (anyStuck vs) (length (addedBy J S b))
@@ -72,8 +73,8 @@ drawValue J S b =
     (record { 0 = recoveredFrom (S .group) b (take (S .t) (addedBy J S b)) })
     (record { 0 = secretsProduct (S .group .p) vs })
 
-unfoldable pub drawOf : Judges → Setting → List ℕ → Outcome Element
-drawOf J S b = outcome (drawChecks J S b) (drawValue J S b)
+unfoldable pub reachedDraw : Judges → Setting → List ℕ → Outcome Element
+reachedDraw J S b = outcome (drawChecks J S b) (drawValue J S b)
 
 -- the draw of a board: the checks before its verdicts come first
 abbrev pub boardDrawChecks : Judges → Setting → List ℕ → List Check
@@ -82,8 +83,8 @@ boardDrawChecks J S b = boardChecks S b ++ drawChecks J S b
 unfoldable pub drawIn : Judges → Setting → List ℕ → Outcome Element
 drawIn J S b = outcome (boardDrawChecks J S b) (drawValue J S b)
 
-unfoldable pub drawOn : Judges → List ℕ → Round → List ℕ → Outcome Element
-drawOn J T R b = judged T R (λ S. boardDrawChecks J S b) (λ S. drawValue J S b)
+unfoldable pub drawOutcome : Judges → List ℕ → Round → List ℕ → Outcome Element
+drawOutcome J T R b = judged T R (λ S. boardDrawChecks J S b) (λ S. drawValue J S b)
 
 -- ---- the board judge's answer
 -- the places of 31 dealers, of whom the first n have a verdict
@@ -97,8 +98,8 @@ verdictPlaces w n = map (placeFor w n) (upFrom 1 31)
 abbrev pub noVerdicts : List DealerVerdict
 noVerdicts = replicate 31 (record { verdict = None })
 
--- of every round and board: no verdict where a check before them refuses
-pub record JudgementOf (J : Judges) (T : List ℕ) (R : Round) (b : List ℕ) (A : Judgement) : Type 0 where
-  pub verdicts : A .verdicts ≡ judgedElse T R (λ S. boardChecks S b) (λ S. verdictPlaces (verdictOn J S b) (S .n)) noVerdicts
-  pub accepted : A .accepted ≡ judgedElse T R (λ S. boardChecks S b) (λ S. countAccepted (verdictsOn J S b)) 0
-  pub draw : elementOutcomeOf (A .draw) ≡ drawOn J T R b
+-- where verdicts are reached
+pub record JudgementIn (J : Judges) (S : Setting) (b : List ℕ) (A : Judgement) : Type 0 where
+  pub verdicts : A .verdicts ≡ verdictPlaces (verdictOn J S b) (S .n)
+  pub accepted : A .accepted ≡ countAccepted (verdictsOn J S b)
+  pub draw : elementOutcomeOf (A .draw) ≡ reachedDraw J S b

@@ -9,7 +9,7 @@ use Rattle.words.specs.Bytes.{recordAt}
 use Rattle.field.specs.Residue.{mul}
 use Rattle.sharing.specs.declared.Setting.{Setting}
 use Rattle.records.specs.Layout.{memberOf, ZOf}
-use Rattle.dealing.specs.Dealing.{YIn}
+use Rattle.lines.specs.Lines.{YIn}
 use Rattle.share.specs.declared.ShareForm.{ShareForm}
 use Rattle.board.specs.Board.{linesOf}
 use Rattle.verdicts.specs.Shares.{Judges, isShareIn, sharesIn}

@@ -5,4 +5,3 @@ pub mod Posted
 pub mod Gathered
 pub mod Added
 pub mod Draw
-pub mod Answered

@@ -5,14 +5,15 @@ use mathlib.Core.List.{List, [], _∷_}
 use Prim.Native.Nat.{ℕ, _*_}
 use lib.ListN.{length, take, drop}
 use lib.Dec.{leb, eqb}
-use Rattle.words.specs.Lists.{map, upFrom}
+use Rattle.words.specs.Lists.{map, upFrom, entry}
+use Rattle.words.specs.Numbers.{stillStuck}
 use Rattle.words.specs.Checks.{_unless_, Outcome, outcome, isValue}
 use Rattle.words.specs.Bytes.{recordsIn, recordAt}
 use Rattle.group.specs.declared.Element.{Element}
 use Rattle.group.specs.declared.Group.{Group}
 use Rattle.sharing.specs.Answer.{recovered}
 use Rattle.sharing.specs.declared.Setting.{Setting}
-use Rattle.records.specs.Layout.{dealerOf, memberOf, ZOf, entry}
+use Rattle.records.specs.Layout.{dealerOf, memberOf, ZOf}
 use Rattle.dealing.specs.Dealing.{judgeDealingIn}
 use Rattle.share.specs.Share.{judgeShareIn}
 use Rattle.share.specs.declared.ShareForm.{ShareForm}
@@ -51,4 +52,4 @@ recoveredFrom G b is = recovered G (map (λ i. memberOf (recordAt b i)) is) (map
 
 -- from the first t of them, refused by 13 where there are fewer
 unfoldable pub fromLowest : Setting → List ℕ → List ℕ → Outcome Element
-fromLowest S b is = outcome (13 unless leb (S .t) (length is) ∷ []) (record { 0 = recoveredFrom (S .group) b (take (S .t) is) })
+fromLowest S b is = outcome (stillStuck unless leb (S .t) (length is) ∷ []) (record { 0 = recoveredFrom (S .group) b (take (S .t) is) })

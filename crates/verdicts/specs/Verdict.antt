@@ -13,7 +13,7 @@ use Rattle.sharing.specs.Setting.{members}
 use Rattle.sharing.specs.Answer.{openingIn}
 use Rattle.sharing.specs.declared.Setting.{Setting}
 use Rattle.records.specs.Layout.{uOf}
-use Rattle.dealing.specs.Dealing.{vsIn, YIn}
+use Rattle.lines.specs.Lines.{vsIn, YIn}
 use Rattle.share.specs.Share.{openedForm}
 use Rattle.board.specs.Board.{keysIn, lineCount, linesOf, openingPlace}
 use Rattle.verdicts.specs.Shares.{Judges, isShareIn, sharesIn, fromLowest}

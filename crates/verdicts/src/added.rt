@@ -3,13 +3,12 @@
 ghost use mathlib.Core.Path.{_≡_};
 ghost use Prim.Native.Nat.{_*_, _<_, _≤_};
 ghost use lib.ListN.{length, take};
-ghost use Rattle.words.specs.Lists.{map, filled};
+ghost use Rattle.words.specs.Lists.{map, filled, entry};
 ghost use Rattle.words.specs.Checks.{Met};
 ghost use Rattle.field.specs.Residue.{mul};
 ghost use Rattle.group.specs.Answer.{elementOutcomeOf};
 ghost use Rattle.sharing.specs.Setting.{ProperSetting, members};
-ghost use Rattle.records.specs.Layout.{entry};
-ghost use Rattle.dealing.specs.Dealing.{YIn};
+ghost use Rattle.lines.specs.Lines.{YIn};
 ghost use Rattle.board.specs.Board.{boardChecks};
 ghost use Rattle.verdicts.specs.Shares.{judges, fromLowest};
 ghost use Rattle.verdicts.specs.Verdict.{verdictOn};

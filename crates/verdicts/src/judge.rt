@@ -1,4 +1,4 @@
-// The board judge: every dealer's verdict, the count of accepted dealings and the draw.
+// Every dealer's verdict, the count of accepted dealings and the draw.
 ghost use mathlib.Core.Path.{_≡_};
 ghost use mathlib.Core.Bool.{true};
 ghost use Prim.Native.Nat.{_<_};
@@ -11,8 +11,7 @@ ghost use Rattle.board.specs.Board.{boardChecks};
 ghost use Rattle.verdicts.specs.Shares.{judges, recoveredFrom};
 ghost use Rattle.verdicts.specs.Verdict.{isStuck, verdictOn};
 ghost use Rattle.verdicts.specs.Added.{addedBy};
-ghost use Rattle.verdicts.specs.Draw.{countOne, secretValue, timesSecret, endChecks, verdictPlaces, JudgementOf};
-ghost use Rattle.verdicts.specs.Answered.{refusedBoard, JudgementIn};
+ghost use Rattle.verdicts.specs.Draw.{countOne, secretValue, timesSecret, endChecks, verdictPlaces, JudgementIn};
 use crate::DealerVerdict;
 use crate::Judgement;
 use crate::Secret;
@@ -20,14 +19,11 @@ use crate::Verdict;
 use crate::added::added_draw;
 use crate::verdicts::verdict;
 use board::board_keys;
-use board::board_refusal_in;
 use group::Element;
 use group::ElementAnswer;
 use group::Group;
-use sharing::Round;
 use sharing::Setting;
-use sharing::SettingAnswer;
-use sharing::setting_of;
+use words::refusal;
 
 // 1 for an accepted dealing.
 fn count_one(v: Verdict) -> u32
@@ -95,7 +91,7 @@ fn draw_answer(
         (pick stuck (record { 0 = recoveredFrom (s .group) (now (b .entry)) (take (s .t) (addedBy judges s (now (b .entry)))) }) product) ⌝ }
 {
     if accepted < s.t {
-        return ElementAnswer::Refused(14);
+        return ElementAnswer::Refused(refusal::TOO_FEW);
     }
     if !stuck {
         return ElementAnswer::Value(product);
@@ -132,36 +128,5 @@ pub fn all_verdicts(s: Setting, b: &[u8]) -> Judgement
         verdicts,
         accepted,
         draw: draw_answer(s, b, verdicts, accepted, stuck, product),
-    }
-}
-
-// The answer where a check before the verdicts refuses the board.
-fn refused_board(k: u32) -> Judgement
-    ensures { λ r. ⌜ r ≡ refusedBoard k ⌝ }
-{
-    let none = DealerVerdict {
-        verdict: Verdict::None,
-    };
-    Judgement {
-        verdicts: [none; 31],
-        accepted: 0,
-        draw: ElementAnswer::Refused(k),
-    }
-}
-
-// Judges a board. Refused, with no verdict: as setting_of; 3, 4, 17, 5, 12, 6 and 22 as board_refusal_in. After all verdicts: 14
-// fewer than t accepted dealings; 13 a stuck dealing, where fewer than t added shares are accepted.
-pub fn judge_board(table: &[u8], rd: Round, b: &[u8]) -> Judgement
-    ensures { λ r. ⌜ JudgementOf judges (now (table .entry)) rd (now (b .entry)) r ⌝ }
-{
-    match setting_of(table, rd) {
-        SettingAnswer::Refused(k) => refused_board(k),
-        SettingAnswer::Value(s) => {
-            let k = board_refusal_in(s, b);
-            if k != 0 {
-                return refused_board(k);
-            }
-            all_verdicts(s, b)
-        }
     }
 }

@@ -1,4 +1,4 @@
-// The board judge: every dealer's verdict, the count of accepted dealings and the draw.
+// Every dealer's verdict, the count of accepted dealings and the draw.
 mod added;
 mod judge;
 mod shares;
@@ -7,7 +7,6 @@ mod verdicts;
 use group::Element;
 use group::ElementAnswer;
 pub use judge::all_verdicts;
-pub use judge::judge_board;
 
 // How the secret of an accepted dealing came.
 pub enum Secret {

@@ -10,11 +10,13 @@ use board::find_key;
 use board::place_of;
 use group::Element;
 use group::ElementAnswer;
+use share::EncryptedShare;
 use share::ShareForm;
 use share::judge_share_figures;
 use sharing::Setting;
 use sharing::recovered_from;
 use words::record_at;
+use words::refusal;
 
 // What the judge of shares answers for the record i with the key of its member and his encrypted share: its figures decide, for the
 // board settles the rest.
@@ -33,7 +35,12 @@ fn accepted_share(
     let key = record_at(b, find_key(b, share.w2));
     let at = share.w2 as usize - 1;
     let y = Element(key.w3);
-    judge_share_figures(s, form, share.w2, y, Element(encrypted[at]), share)
+    let e = EncryptedShare {
+        form,
+        member: share.w2,
+        encrypted: Element(encrypted[at]),
+    };
+    judge_share_figures(s, e, y, share)
 }
 
 // The shares found before the record i, and its share where it is an accepted one.
@@ -96,7 +103,7 @@ pub(crate) fn from_lowest(s: Setting, form: ShareForm, b: &[u8], encrypted: &[u3
     let found = lowest_shares(s, form, b, encrypted);
     let k = found.count;
     if k < s.t as usize {
-        return ElementAnswer::Refused(13);
+        return ElementAnswer::Refused(refusal::STILL_STUCK);
     }
     let members = found.members;
     let shares = found.shares;

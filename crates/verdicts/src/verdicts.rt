@@ -1,28 +1,35 @@
 // How the secret of an accepted dealing came, and a dealer's verdict.
 ghost use mathlib.Core.Path.{_≡_};
-ghost use Rattle.words.specs.Checks.{Met};
+ghost use mathlib.Core.Bool.{_&&_};
+ghost use lib.Dec.{ltb};
+ghost use Rattle.words.specs.Checks.{Met, isValue};
+ghost use Rattle.words.specs.Bytes.{recordsIn, recordAt};
 ghost use Rattle.sharing.specs.Setting.{ProperSetting};
-ghost use Rattle.dealing.specs.Columns.{columnsOf};
+ghost use Rattle.sharing.specs.Answer.{openingIn};
+ghost use Rattle.sharing.specs.Carried.{Commitments};
+ghost use Rattle.records.specs.Layout.{uOf};
+ghost use Rattle.lines.specs.Columns.{columnsOf};
 ghost use Rattle.board.specs.Board.{keysIn, boardChecks, linesOf};
 ghost use Rattle.verdicts.specs.Shares.{judges};
-ghost use Rattle.verdicts.specs.Verdict.{commitmentsOf, encryptedOf, fromShares, isOpened, secretBy, verdictOn};
+ghost use Rattle.verdicts.specs.Verdict.{encryptedOf, fromShares, secretBy, verdictOn};
 ghost use Rattle.verdicts.specs.Posted.{LinesOn};
 use crate::Secret;
 use crate::Verdict;
 use crate::shares::from_lowest;
 use board::find_opening;
 use board::lines_of;
-use board::records;
-use dealing::Columns;
+use board::record_count;
 use dealing::judge_lines;
 use group::ElementAnswer;
 use group::Exponent;
 use group::is_exponent;
+use lines::Columns;
 use share::opened_form;
-use sharing::CheckAnswer;
 use sharing::Setting;
 use sharing::opens;
+use words::CheckAnswer;
 use words::record_at;
+use words::refusal;
 
 // The secret from the t lowest members with accepted shares, stuck where there are fewer.
 // Internal: callers ensure that verdicts are reached, that the lines of d are accepted, and that these are the encrypted shares in them.
@@ -36,14 +43,13 @@ fn from_shares(s: Setting, b: &[u8], d: u32, encrypted: &[u32]) -> Secret
     }
 }
 
-// Whether the opening of the dealer d, where there is one, is right: below q, and it opens his commitments.
-// Internal: callers ensure that verdicts are reached, that the lines of d are accepted, and that vs are the commitments in them.
-fn is_opened(s: Setting, b: &[u8], d: u32, vs: &[u32]) -> bool
-    requires { ⌜ (LinesOn s (now b) d) × (now vs ≡ commitmentsOf s (now b) d) ⌝ }
-    ensures { λ r. ⌜ r ≡ isOpened s (now (b .entry)) d ⌝ }
+// Whether the record at this place, where there is one, holds a right opening of the commitments vs: below q, and it opens them.
+// Internal: callers ensure that the setting is proper and that vs are n elements.
+fn opened_at(s: Setting, b: &[u8], at: usize, vs: &[u32]) -> bool
+    requires { ⌜ (ProperSetting s) × (Commitments s (now vs)) ⌝ }
+    ensures { λ r. ⌜ r ≡ ltb at (recordsIn (now (b .entry))) && isValue (openingIn s (now (vs .entry)) (uOf (recordAt (now (b .entry)) at))) ⌝ }
 {
-    let at = find_opening(b, d);
-    if at >= records(b) {
+    if at >= record_count(b) {
         return false;
     }
     let u = Exponent(record_at(b, at).w3);
@@ -61,11 +67,12 @@ fn secret(s: Setting, b: &[u8], d: u32, figures: Columns) -> Secret
 {
     let n = s.n as usize;
     let vs = figures.vs;
-    if !is_opened(s, b, d, &vs[..n]) {
+    let at = find_opening(b, d);
+    if !opened_at(s, b, at, &vs[..n]) {
         let encrypted = figures.encrypted;
         return from_shares(s, b, d, &encrypted[..n]);
     }
-    let u = Exponent(record_at(b, find_opening(b, d)).w3);
+    let u = Exponent(record_at(b, at).w3);
     Secret::Opened(s.group.h.power(s.group, u))
 }
 
@@ -77,12 +84,12 @@ pub(crate) fn verdict(s: Setting, ys: &[u32], b: &[u8], d: u32) -> Verdict
     ensures { λ r. ⌜ r ≡ verdictOn judges s (now (b .entry)) d ⌝ }
 {
     let lines = lines_of(b, d);
-    let count = records(lines);
+    let count = record_count(lines);
     if count == 0 {
         return Verdict::None;
     }
     if count != s.n as usize {
-        return Verdict::Refused(12);
+        return Verdict::Refused(refusal::INCOMPLETE);
     }
     let judged = judge_lines(s, d, ys, lines);
     let answer = judged.answer;

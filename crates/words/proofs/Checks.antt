@@ -8,7 +8,8 @@ use Prim.Native.Nat.{ℕ, _<_}
 use native.Mathlib.Omega.{arith}
 use borrow.Author.Tests.{ltb-true}
 use lib.Dec.{ltb}
-use Rattle.words.specs.Lists.{all}
+use Rattle.words.specs.Choice.{pick}
+use Rattle.words.specs.Lists.{All, all}
 use Rattle.words.specs.Checks.{Check, Outcome, value, refused, isValue, refusal, outcome, Met, FirstUnmet, Numbered, ifMet}
 use Rattle.words.specs.Claims.{ValueExactly, RefusedExactly, NoneExactly, FirstExactly, ChosenMet, ChosenUnmet}
 use Rattle.words.proofs.Lists.{All-to}
@@ -117,3 +118,20 @@ is-value (refused k) e = absurd (false-true e)
 
 pub not-value : {A : Type 0} {o : Outcome A} {a : A} → isValue o ≡ false → o ≡ value a → ⊥
 not-value e f = false-true (sym e ∙ ap isValue f)
+
+-- whatever the checks, what is chosen by them has a property that both have
+pub either-way : {A : Type 0} (P : A → Type 0) (cs : List Check) (a b : A) → (Met cs → P a) → P b → P (ifMet cs a b)
+either-way P [] a b f p = f tt
+either-way P (c ∷ cs) a b f p = split (c .met) (λ e. either-way P cs a b (λ m. f (e, m)) p)
+  where
+    split : (x : Bool) → (x ≡ true → P (ifMet cs a b)) → P (pick x (ifMet cs a b) b)
+    split true g = g refl
+    split false g = p
+
+-- no check has the number k: nothing is refused by it
+pub never-among : {A : Type 0} (cs : List Check) (a : A) (k : ℕ) → All (λ (c : Check). c .number ≡ k → ⊥) cs → outcome cs a ≡ refused k → ⊥
+never-among {A} cs a k n e = among cs n (refused-exactly A cs a k .0 e)
+  where
+    among : (cs : List Check) → All (λ (c : Check). c .number ≡ k → ⊥) cs → FirstUnmet k cs → ⊥
+    among [] n u = u
+    among (c ∷ cs) n u = ⊎-elim (λ w. n .0 (w .1)) (λ w. among cs (n .1) (w .1)) u

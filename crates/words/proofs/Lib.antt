@@ -4,5 +4,7 @@ pub mod Tests
 pub mod Checks
 pub mod Stages
 pub mod Alike
+pub mod RefuseAlike
+pub mod Without
 pub mod Bytes
 pub mod Records

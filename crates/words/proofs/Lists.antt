@@ -7,7 +7,7 @@ use native.Mathlib.Numerals.{add-one}
 use native.Mathlib.Omega.{arith}
 use lib.ListN.{length, getD, take, drop, set, replicate, length-append}
 use lib.Seq.{drop-cons, take-take, take-at, set-at, append-snoc}
-use Rattle.words.specs.Lists.{All, Pairwise, Distinct, map, upFrom, filled}
+use Rattle.words.specs.Lists.{All, Pairwise, Distinct, map, upFrom, entry, filled}
 
 -- ---- facts of every element, and of every pair
 module _ {A : Type 0} where
@@ -194,3 +194,12 @@ module _ (f : ℕ → ℕ) (m i k : ℕ) {l : List ℕ} (e : l ≡ filled m (map
   run-next {x} h v =
       filled-next m k (map f (upFrom i k)) run-length e x h
       (ap (λ (y : ℕ). map f (upFrom i k) ++ (y ∷ [])) v ∙ sym (ap (map f) (up-last i k) ∙ map-append f (upFrom i k) ((i + k) ∷ [])))
+
+-- ---- numbers of a list counted from 1
+pub entry-at : (l : List ℕ) (k : ℕ) → getD l k 0 ≡ entry l (k + 1)
+unfolding entry
+entry-at l k = let e : k ≡ k + 1 - 1 = omega arith in ap (λ (i : ℕ). getD l i 0) e
+
+pub entry-all : (P : ℕ → Type 0) (l : List ℕ) → All P l → (i : ℕ) → 1 ≤ i → i ≤ length l → P (entry l i)
+unfolding entry
+entry-all P l a i h k = All-at P l (i - 1) 0 (omega arith) a

@@ -13,7 +13,7 @@ use Rattle.words.specs.Checks.{Check, Outcome, value, refused, refusal, 
 use Rattle.words.specs.Claims.{StagesNumber, StagesOutcome, StagesChoice, StagesMet}
 use Rattle.words.proofs.Lists.{All-append, All-parts}
 use Rattle.words.proofs.Tests.{pick-true, pick-same}
-use Rattle.words.proofs.Checks.{if-met, if-unmet, first-number, value-met, refused-exactly, none-exactly, first-exactly, numbered}
+use Rattle.words.proofs.Checks.{if-met, if-unmet, first-number, value-met, value-exactly, refused-exactly, none-exactly, first-exactly, numbered}
 
 -- ---- the claims
 pub stages-choice : StagesChoice
@@ -89,6 +89,11 @@ pub settled-outcome : {A : Type 0} (cs : List Check) (c : Check) (ds : List Chec
     → outcome (cs ++ (c ∷ ds)) a ≡ outcome (cs ++ ds) a
 settled-outcome [] c ds a h = pick-true (c .met) _ _ (h tt)
 settled-outcome (k ∷ cs) c ds a h = pick-same (k .met) _ _ _ (λ e. settled-outcome cs c ds a (λ m. h (e, m)))
+
+-- ---- a last stage that is met: without it the answer is the same
+pub settled-behind : {A : Type 0} (cs ds : List Check) (a : A) → Met ds → outcome (cs ++ ds) a ≡ outcome cs a
+settled-behind {A} [] ds a m = value-exactly A ds a .1 m
+settled-behind {A} (c ∷ cs) ds a m = ap (λ (o : Outcome A). pick (c .met) o (refused (c .number))) (settled-behind cs ds a m)
 
 -- ---- a stage by the number k that its function answers
 module _ (cs : List Check) {k : ℕ} (e : k ≡ refusal cs) where

@@ -4,8 +4,11 @@ use mathlib.Core.Bool.{Bool, true, false}
 use mathlib.Core.List.{List, [], _∷_}
 use mathlib.Core.Logic.{_⊎_}
 use Prim.Native.Nat.{ℕ, _<_}
+use lib.Dec.{eqb}
 use Rattle.words.specs.Choice.{pick}
 use Rattle.words.specs.Lists.{All}
+use Rattle.words.specs.declared.CheckAnswer.{CheckAnswer}
+use Rattle.words.specs.declared.CheckAnswer.the-variants.{Passed, Refused}
 
 pub record Check : Type 0 where
   pub number : ℕ
@@ -30,6 +33,11 @@ abbrev pub isValue : {A : Type 0} → Outcome A → Bool
 isValue (value a) = true
 isValue (refused k) = false
 
+-- of the answer of a check that yields no value
+abbrev pub checkOutcomeOf : CheckAnswer → Outcome (Unit {0})
+checkOutcomeOf Passed = value tt
+checkOutcomeOf (Refused k) = refused k
+
 -- the value where every check is met, else refused by the first that is not
 abbrev pub outcome : {A : Type 0} → List Check → A → Outcome A
 outcome [] a = value a
@@ -52,3 +60,12 @@ Numbered cs = All (λ (c : Check). 0 < c .number) cs
 abbrev pub ifMet : {A : Type 0} → List Check → A → A → A
 ifMet [] a b = a
 ifMet (c ∷ cs) a b = pick (c .met) (ifMet cs a b) b
+
+-- the checks of another number than k: what is tested where nothing is refused by k
+abbrev pub without : ℕ → List Check → List Check
+without k [] = []
+without k (c ∷ cs) = pick (eqb (c .number) k) (without k cs) (c ∷ without k cs)
+
+-- every check of the number k is met
+abbrev pub MetBy : ℕ → List Check → Type 0
+MetBy k cs = All (λ (c : Check). c .number ≡ k → c .met ≡ true) cs

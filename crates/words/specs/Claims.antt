@@ -6,7 +6,7 @@ use mathlib.Core.Logic.{_↔_}
 use Prim.Native.Nat.{ℕ, _^_, _<_}
 use lib.ListN.{length}
 use Rattle.words.specs.Lists.{Below}
-use Rattle.words.specs.Checks.{Check, value, refused, refusal, outcome, Met, FirstUnmet, Numbered, ifMet}
+use Rattle.words.specs.Checks.{Check, value, refused, refusal, outcome, Met, FirstUnmet, Numbered, ifMet, without, MetBy}
 use Rattle.words.specs.Bytes.{recordWords, recordBytes, recordIn, agrees}
 use Rattle.words.specs.declared.Record.{Record}
 
@@ -46,6 +46,13 @@ StagesChoice = (A : Type 0) (cs ds : List Check) (a b : A) → ifMet (cs ++ ds) 
 
 abbrev pub StagesMet : Type 0
 StagesMet = (cs ds : List Check) → Met (cs ++ ds) ↔ (Met cs × Met ds)
+
+-- ---- checks of one number: where each of them is met, the answer and the choice are those without them
+abbrev pub WithoutOutcome : Type 1
+WithoutOutcome = (A : Type 0) (k : ℕ) (cs : List Check) (a : A) → MetBy k cs → outcome cs a ≡ outcome (without k cs) a
+
+abbrev pub WithoutChoice : Type 1
+WithoutChoice = (A : Type 0) (k : ℕ) (cs : List Check) (a b : A) → MetBy k cs → ifMet cs a b ≡ ifMet (without k cs) a b
 
 -- ---- records
 -- a record that is written reads back

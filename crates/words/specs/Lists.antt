@@ -3,7 +3,7 @@ use mathlib.Core.Path.{_≡_}
 use mathlib.Core.Bool.{Bool, true, false, _&&_}
 use mathlib.Core.List.{List, [], _∷_, _++_}
 use Prim.Native.Nat.{ℕ, zero, suc, _-_, _<_}
-use lib.ListN.{length, replicate}
+use lib.ListN.{length, getD, replicate}
 use lib.Dec.{eqb}
 use Rattle.words.specs.Choice.{pick}
 
@@ -48,6 +48,10 @@ noneTwice (x ∷ xs) = absent x xs && noneTwice xs
 abbrev pub upFrom : ℕ → ℕ → List ℕ
 upFrom i zero = []
 upFrom i (suc n) = i ∷ upFrom (suc i) n
+
+-- the i-th number of a list, counted from 1: the figure of member i in a list of the members' figures
+unfoldable pub entry : List ℕ → ℕ → ℕ
+entry xs i = getD xs (i - 1) 0
 
 -- the numbers xs, and 0 behind them up to m places
 unfoldable pub filled : ℕ → List ℕ → List ℕ

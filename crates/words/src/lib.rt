@@ -1,10 +1,13 @@
-// Words and records of bytes, as every figure of a board is posted, and lists of words.
+// Words and records of bytes, as every figure of a board is posted, lists of words, and the answer of a check.
 ghost use mathlib.Core.Path.{_≡_};
 ghost use Prim.Native.Nat.{_+_, _*_, _≤_};
 ghost use lib.ListN.{length};
+ghost use Rattle.words.specs.Choice.{pick};
+ghost use Rattle.words.specs.Checks.{value, refused, checkOutcomeOf};
 ghost use Rattle.words.specs.Bytes.{word, wordAt, wordBytes, putAt, recordIn, recordAt, recordBytes, agrees};
 
 mod distinct;
+pub mod refusal;
 
 pub use distinct::none_twice;
 
@@ -18,6 +21,23 @@ pub struct Record {
     pub w5: u32,
     pub w6: u32,
     pub w7: u32,
+}
+
+// The answer of a check that yields no value.
+pub enum CheckAnswer {
+    Passed,
+    Refused(u32),
+}
+
+// The answer by the last test.
+pub fn passed_if(test: bool, number: u32) -> CheckAnswer
+    ensures { λ r. ⌜ checkOutcomeOf r ≡ pick test (value tt) (refused number) ⌝ }
+{
+    if test {
+        CheckAnswer::Passed
+    } else {
+        CheckAnswer::Refused(number)
+    }
 }
 
 // The word of four bytes.

@@ -1,17 +1,18 @@
 -- `extend_refusal` meets its contract: the chain decides, then the test that failed, then the draw value.
 use mathlib.Core.Path.{_≡_, sym, ap, _∙_}
 use mathlib.Core.Bool.{Bool, false, _&&_}
-use Prim.Native.Nat.{ℕ, _≤_, _<_}
+use mathlib.Core.Logic.{⊎-elim}
+use Prim.Native.Nat.{ℕ, _<_}
 use native.Mathlib.Omega.{arith}
 use borrow.Author.Needs.{needs}
-use borrow.Author.Tests.{eq-eqb, ne-eqb, lt-ltb, le-ltb}
+use borrow.Author.Tests.{lt-ltb, le-ltb, not-true, not-false}
 use lib.Dec.{ltb, eqb}
 use Rattle.words.specs.Checks.{refusal}
 use Rattle.words.proofs.Tests.{pick-true, pick-false}
 use Rattle.words.proofs.Checks.{none-exactly}
 use Rattle.words.proofs.Stages.{stage-number, rest-number}
 use Rattle.group.specs.Table.{groupsOf}
-use Rattle.chain.specs.Chain.{chainChecks, nextChecks, extendChecks}
+use Rattle.chain.specs.Chain.{linksIn, chainChecks, nextChecks, extendChecks}
 use Rattle.chain.proofs.Steps.{chain-numbered}
 use Rattle.chain.proofs.extend_refusal.Statement.{statement}
 use Rattle.chain.proofs.extend_refusal.Tie as tie
@@ -38,40 +39,32 @@ left c =
 links-requires : tie.Need-links-requires
 links-requires c κs = search needs
 
--- the chain is full or not
-module _ (room : ℕ) {m n : ℕ} (e : m ≡ n) where
-  full : 1024 ≤ m → (ltb n 1024 && eqb room 64) ≡ false
-  full h = ap (λ (b : Bool). b && eqb room 64) (le-ltb n 1024 (omega (arith, e)))
-
-  more : m < 1024 → {b : Bool} → eqb room 64 ≡ b → (ltb n 1024 && eqb room 64) ≡ b
-  more h f = ap (λ (b : Bool). b && eqb room 64) (lt-ltb n 1024 (omega (arith, e))) ∙ f
+-- where the chain is not full the room decides
+more : (room : ℕ) {m n : ℕ} {b : Bool} → m ≡ n → m < 1024 → eqb room 64 ≡ b → (ltb n 1024 && eqb room 64) ≡ b
+more room {n = n} e h f = ap (λ (b : Bool). b && eqb room 64) (lt-ltb n 1024 (omega (arith, e))) ∙ f
 
 returns-2 : tie.Need-returns-2
-returns-2 c = sym (pick-false _ _ 3 (full (c .before .before .before .before .before .before .args .room) (c .before .links .ensures) (c .if2 .taken))) ∙ left (c .before .before)
-
-returns-3 : tie.Need-returns-3
-returns-3 c =
-    let l = c .before .before in
-    sym (pick-false _ _ 3 (more (l .before .before .before .before .before .args .room) (l .links .ensures) (c .before .if2 .left) (ne-eqb _ 64 (c .if3 .taken)))) ∙ left (l .before)
+returns-2 c =
+    let l = c .before in
+    let a = l .before .before .before .before .before .args in
+    let f : (ltb (linksIn (a .b .now)) 1024 && eqb (a .room) 64) ≡ false =
+    ⊎-elim
+    (λ x. ap (λ (b : Bool). b && eqb (a .room) 64) (le-ltb (linksIn (a .b .now)) 1024 (omega (arith, l .links .ensures, x .taken))))
+    (λ x. more (a .room) (l .links .ensures) (x .0 .left) (not-true _ (x .1 .taken)))
+    (c .if2 .came) in
+    sym (pick-false _ _ 3 f) ∙ left (l .before)
 
 value-refusal-requires : tie.Need-value-refusal-requires
 value-refusal-requires c κs = search needs
 
-returns-4 : tie.Need-returns-4
-returns-4 c =
-    let l = c .before .before .before in
-    c .value-refusal .ensures
-    ∙ sym (pick-true _ _ 3 (more (l .before .before .before .before .before .args .room) (l .links .ensures) (c .before .before .if2 .left) (eq-eqb _ 64 (c .before .if3 .left))))
-    ∙ left (l .before)
+returns-3 : tie.Need-returns-3
+returns-3 c =
+    let d = c .before in
+    let l = d .before .before in
+    let f = more (l .before .before .before .before .before .args .room) (l .links .ensures) (d .before .if2 .left) (not-false _ (d .if3 .left)) in
+    c .value-refusal .ensures ∙ sym (pick-true _ _ 3 f) ∙ left (l .before)
 
 pub extend-refusal-spec : {M : Type 1} → statement M
 extend-refusal-spec =
     tie.close
-    (tie.spec
-    chain-refusal-requires
-    returns
-    links-requires
-    returns-2
-    returns-3
-    value-refusal-requires
-    returns-4)
+    (tie.spec chain-refusal-requires returns links-requires returns-2 value-refusal-requires returns-3)

@@ -4,32 +4,32 @@ use Rattle.text.proofs.Lengths.{text-within}
 use Rattle.draw.proofs.main.Statement.{statement}
 use Rattle.draw.proofs.main.Tie as tie
 
-slice-aggregate-read-file : tie.Need-slice-aggregate-read-file
-slice-aggregate-read-file c = search needs
+slice-aggregate-read-or-empty : tie.Need-slice-aggregate-read-or-empty
+slice-aggregate-read-or-empty c = search needs
 
-slice-aggregate-read-file-2 : tie.Need-slice-aggregate-read-file-2
-slice-aggregate-read-file-2 c = search needs
+slice-aggregate-read-or-empty-2 : tie.Need-slice-aggregate-read-or-empty-2
+slice-aggregate-read-or-empty-2 c = search needs
 
-read-file-requires : tie.Need-read-file-requires
-read-file-requires c κs = search needs
+read-or-empty-requires : tie.Need-read-or-empty-requires
+read-or-empty-requires c κs = search needs
 
-slice-aggregate-read-file-3 : tie.Need-slice-aggregate-read-file-3
-slice-aggregate-read-file-3 c = search needs
+slice-aggregate-read-or-empty-3 : tie.Need-slice-aggregate-read-or-empty-3
+slice-aggregate-read-or-empty-3 c = search needs
 
-slice-aggregate-read-file-4 : tie.Need-slice-aggregate-read-file-4
-slice-aggregate-read-file-4 c = search needs
+slice-aggregate-read-or-empty-4 : tie.Need-slice-aggregate-read-or-empty-4
+slice-aggregate-read-or-empty-4 c = search needs
 
-read-file-requires-2 : tie.Need-read-file-requires-2
-read-file-requires-2 c κs = search needs
+read-or-empty-requires-2 : tie.Need-read-or-empty-requires-2
+read-or-empty-requires-2 c κs = search needs
 
-slice-aggregate-read-file-5 : tie.Need-slice-aggregate-read-file-5
-slice-aggregate-read-file-5 c = search needs
+slice-aggregate-read-or-empty-5 : tie.Need-slice-aggregate-read-or-empty-5
+slice-aggregate-read-or-empty-5 c = search needs
 
-slice-aggregate-read-file-6 : tie.Need-slice-aggregate-read-file-6
-slice-aggregate-read-file-6 c = search needs
+slice-aggregate-read-or-empty-6 : tie.Need-slice-aggregate-read-or-empty-6
+slice-aggregate-read-or-empty-6 c = search needs
 
-read-file-requires-3 : tie.Need-read-file-requires-3
-read-file-requires-3 c κs = search needs
+read-or-empty-requires-3 : tie.Need-read-or-empty-requires-3
+read-or-empty-requires-3 c κs = search needs
 
 array-share-prefix-table : tie.Need-array-share-prefix-table
 array-share-prefix-table c = search needs
@@ -71,15 +71,15 @@ pub main-spec : {M : Type 1} → statement M
 main-spec =
     tie.close
     (tie.spec
-    slice-aggregate-read-file
-    slice-aggregate-read-file-2
-    read-file-requires
-    slice-aggregate-read-file-3
-    slice-aggregate-read-file-4
-    read-file-requires-2
-    slice-aggregate-read-file-5
-    slice-aggregate-read-file-6
-    read-file-requires-3
+    slice-aggregate-read-or-empty
+    slice-aggregate-read-or-empty-2
+    read-or-empty-requires
+    slice-aggregate-read-or-empty-3
+    slice-aggregate-read-or-empty-4
+    read-or-empty-requires-2
+    slice-aggregate-read-or-empty-5
+    slice-aggregate-read-or-empty-6
+    read-or-empty-requires-3
     array-share-prefix-table
     slice-aggregate-draw-text
     array-share-prefix-set

@@ -14,13 +14,13 @@ Inv-loop b k d m low₀ high₀ low high = (low ≤ placeOf b k d m) × (placeOf
 abbrev μ-loop : tie.MeasureT-loop
 μ-loop b k d m low₀ high₀ low high = high - low
 
-records-requires : tie.Need-records-requires Inv-loop μ-loop
-records-requires c κs = search needs
+record-count-requires : tie.Need-record-count-requires Inv-loop μ-loop
+record-count-requires c κs = search needs
 
 loop-holds : tie.Need-loop-holds Inv-loop μ-loop
 loop-holds c =
     let a = c .before .before .args in
-    omega (arith, c .records .ensures, place-within (a .b .now) (a .k) (a .d) (a .m))
+    omega (arith, c .record-count .ensures, place-within (a .b .now) (a .k) (a .d) (a .m))
 
 add-mid : tie.Need-add-mid Inv-loop μ-loop
 add-mid c = search needs
@@ -65,7 +65,7 @@ place-of-spec =
     (tie.spec
     Inv-loop
     μ-loop
-    records-requires
+    record-count-requires
     loop-holds
     add-mid
     record-at-requires

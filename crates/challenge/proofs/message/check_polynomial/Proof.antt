@@ -5,10 +5,9 @@ use Prim.Native.Nat.{ℕ, _+_, _-_, _*_, _≤_}
 use native.Mathlib.Omega.{arith}
 use borrow.Author.Needs.{needs}
 use lib.ListN.{length, take, length-set}
-use Rattle.words.specs.Lists.{map, upFrom, filled}
+use Rattle.words.specs.Lists.{map, upFrom, filled, entry}
 use Rattle.words.proofs.Lists.{filled-none, run-next}
 use Rattle.sharing.specs.declared.Setting.{Setting}
-use Rattle.records.specs.Layout.{entry}
 use Rattle.challenge.specs.Message.{challengeOf, coefficientMessage, checkPolynomial}
 use Rattle.challenge.proofs.Buffers.{coefficient-put, coefficient-next}
 use Rattle.challenge.proofs.message.check_polynomial.Statement.{statement}

@@ -1,17 +1,17 @@
 -- `coefficient_message` meets its contract. The loop's invariant: the words of the first i members stand behind the head and the byte 0.
 use mathlib.Core.Path.{_≡_, refl, sym, ap, _∙_}
 use mathlib.Core.List.{List, [], _∷_}
-use Prim.Native.Nat.{ℕ, _+_, _-_, _*_, _≤_}
+use Prim.Native.Nat.{ℕ, _+_, _-_, _≤_}
 use native.Mathlib.Omega.{arith}
 use borrow.Author.Needs.{needs}
 use lib.ListN.{length, set, length-set}
 use Rattle.words.specs.Bytes.{putAt}
+use Rattle.words.specs.Lists.{entry}
 use Rattle.words.proofs.Bytes.{put-none}
+use Rattle.words.proofs.Lists.{entry-at}
 use Rattle.sharing.specs.Setting.{members}
-use Rattle.records.specs.Layout.{entry}
 use Rattle.challenge.specs.Message.{coefficientTag, bytesOver, coefficientMessage}
-use Rattle.records.proofs.Members.{entry-at}
-use Rattle.challenge.proofs.Buffers.{members-length, over-next, put-behind-byte}
+use Rattle.challenge.proofs.Buffers.{over-next, put-behind-byte}
 use Rattle.challenge.proofs.message.coefficient_message.Statement.{statement}
 use Rattle.challenge.proofs.message.coefficient_message.Tie as tie
 

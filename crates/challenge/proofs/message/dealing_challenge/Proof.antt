@@ -6,11 +6,11 @@ use native.Mathlib.Omega.{arith}
 use borrow.Author.Needs.{needs}
 use lib.ListN.{length}
 use Rattle.words.specs.Bytes.{putAt}
+use Rattle.words.specs.Lists.{entry}
 use Rattle.words.proofs.Bytes.{put-none}
+use Rattle.words.proofs.Lists.{entry-at}
 use Rattle.sharing.specs.Setting.{members}
-use Rattle.records.specs.Layout.{entry}
 use Rattle.challenge.specs.Message.{dealingTag, bytesOver, challengeOf, dealingMessage}
-use Rattle.records.proofs.Members.{entry-at}
 use Rattle.challenge.proofs.Buffers.{members-length, over-next, behind-head}
 use Rattle.challenge.proofs.message.dealing_challenge.Statement.{statement}
 use Rattle.challenge.proofs.message.dealing_challenge.Tie as tie

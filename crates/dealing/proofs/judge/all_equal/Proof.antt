@@ -8,11 +8,11 @@ use borrow.Author.Needs.{needs}
 use borrow.Author.Tests.{eq-eqb, ne-eqb}
 use lib.Dec.{eqb}
 use lib.ListN.{getD, drop}
-use Rattle.words.specs.Lists.{all}
+use Rattle.words.specs.Lists.{all, entry}
+use Rattle.words.proofs.Lists.{entry-at}
 use Rattle.group.specs.declared.Exponent.{Exponent}
 use Rattle.sharing.specs.Setting.{members}
-use Rattle.records.specs.Layout.{entry}
-use Rattle.records.proofs.Members.{tests-stop, tests-next, tests-end, entry-at}
+use Rattle.sharing.proofs.EachMember.{tests-stop, tests-next, tests-end}
 use Rattle.dealing.proofs.judge.all_equal.Statement.{statement}
 use Rattle.dealing.proofs.judge.all_equal.Tie as tie
 

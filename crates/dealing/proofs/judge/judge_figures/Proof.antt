@@ -5,12 +5,11 @@ use Prim.Native.Nat.{ℕ}
 use borrow.Author.Needs.{needs}
 use lib.Dec.{eqb}
 use Rattle.words.specs.Choice.{pick}
-use Rattle.words.specs.Lists.{all}
+use Rattle.words.specs.Lists.{all, entry}
 use Rattle.words.specs.Checks.{Outcome, value, refused, outcome}
 use Rattle.words.proofs.Tests.{passed, failed, pick-true, pick-false}
 use Rattle.words.proofs.Stages.{stage-met, stage-refused, rest-outcome}
 use Rattle.sharing.specs.Setting.{members}
-use Rattle.records.specs.Layout.{entry}
 use Rattle.dealing.specs.Dealing.{rangeChecks, equationChecks, figureChecks}
 use Rattle.dealing.proofs.judge.judge_figures.Statement.{statement}
 use Rattle.dealing.proofs.judge.judge_figures.Tie as tie

@@ -8,8 +8,8 @@ use lib.ListN.{length}
 use lib.Seq.{length-take-le}
 use Rattle.words.proofs.Lists.{filled-front}
 use Rattle.sharing.specs.Answer.{degreeProduct}
+use Rattle.sharing.proofs.EachMember.{entries-front}
 use Rattle.challenge.proofs.Challenges.{check-polynomial}
-use Rattle.dealing.proofs.Entries.{entries-front}
 use Rattle.dealing.proofs.judge.own_check_passes.Statement.{statement}
 use Rattle.dealing.proofs.judge.own_check_passes.Tie as tie
 

@@ -5,16 +5,15 @@ use Prim.Native.Nat.{ℕ, _-_, _≤_, _<_}
 use native.Mathlib.Omega.{arith}
 use borrow.Author.Needs.{needs}
 use lib.ListN.{length}
-use Rattle.words.specs.Lists.{map, filled}
-use Rattle.words.proofs.Lists.{filled-none}
+use Rattle.words.specs.Lists.{map, filled, entry}
+use Rattle.words.proofs.Lists.{filled-none, entry-at}
 use Rattle.group.specs.declared.Group.{Group}
 use Rattle.sharing.specs.Setting.{members}
-use Rattle.records.specs.Layout.{entry}
-use Rattle.records.proofs.Members.{entry-at, members-next}
+use Rattle.sharing.proofs.EachMember.{members-next, filled-agree}
 use Rattle.equality.specs.Equality.{announced}
+use Rattle.lines.specs.declared.Columns.{Columns}
 use Rattle.dealing.specs.Dealing.{recomputed}
-use Rattle.dealing.specs.declared.Columns.{Columns}
-use Rattle.dealing.proofs.Entries.{filled-agree, challenge-same}
+use Rattle.dealing.proofs.Entries.{challenge-same}
 use Rattle.dealing.proofs.judge.recomputed.Statement.{statement}
 use Rattle.dealing.proofs.judge.recomputed.Tie as tie
 

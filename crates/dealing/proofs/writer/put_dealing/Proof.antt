@@ -41,10 +41,15 @@ raised-requires-4 c κs =
 dealing-challenge-requires : tie.Need-dealing-challenge-requires
 dealing-challenge-requires c κs = search needs
 
+responses-requires : tie.Need-responses-requires
+responses-requires c κs =
+    let s = c .before .before .before .before .before .before .before .before .before .before .before .before .before .before .before .before .before .before .before .before in
+    (omega (arith, s .pre .0 .n-most, s .pre .3), s .pre .4)
+
 put-lines-requires : tie.Need-put-lines-requires
 put-lines-requires c κs =
-    let s = c .before .before .before .before .before .before .before .before .before .before .before .before .before .before .before .before .before .before .before .before .before .before .before in
-    (omega (arith, s .pre .0 .n-most, s .pre .3), s .pre .4, omega (arith, s .pre .3, s .pre .5))
+    let s = c .before .before .before .before .before .before .before .before .before .before .before .before .before .before .before .before .before .before .before .before .before .before .before .before .before in
+    (s .pre .0 .n-most, s .pre .5)
 
 same-length : tie.Need-same-length
 same-length c = search needs
@@ -52,7 +57,8 @@ same-length c = search needs
 returns : tie.Need-returns
 returns c =
     let p = c .before .before in
-    let k = p .before .before .before .before .before in
+    let r = p .before .before .before .before .before in
+    let k = r .before .before in
     let b = k .before .before .before .before .before in
     let a1 = b .before in
     let e = a1 .before .before in
@@ -63,6 +69,7 @@ returns c =
     p .put-lines .ensures
     ∙ lines-are (a .s) (s .pre .0 .n-most) (a .d) (a .ys .now) (a .f .now) (a .ws .now) _ _ _ _ _
     (s .pre .3) (x .values .ensures) (v .raised .ensures) (e .raised2 .ensures) (a1 .raised3 .ensures) (b .raised4 .ensures) (k .dealing-challenge .ensures)
+    (r .responses .ensures)
 
 pub put-dealing-spec : {M : Type 1} → statement M
 put-dealing-spec =
@@ -79,6 +86,7 @@ put-dealing-spec =
     raised-requires-3
     raised-requires-4
     dealing-challenge-requires
+    responses-requires
     put-lines-requires
     same-length
     returns)

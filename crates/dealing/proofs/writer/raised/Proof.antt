@@ -4,10 +4,10 @@ use Prim.Native.Nat.{_-_, _≤_}
 use native.Mathlib.Omega.{arith}
 use borrow.Author.Needs.{needs}
 use Rattle.words.specs.Lists.{map, filled}
-use Rattle.words.proofs.Lists.{filled-none}
+use Rattle.words.proofs.Lists.{filled-none, entry-at}
 use Rattle.group.specs.Power.{pow}
 use Rattle.sharing.specs.Setting.{members}
-use Rattle.records.proofs.Members.{entry-at, members-next}
+use Rattle.sharing.proofs.EachMember.{members-next}
 use Rattle.dealing.proofs.Arrays.{powerOf}
 use Rattle.dealing.proofs.writer.raised.Statement.{statement}
 use Rattle.dealing.proofs.writer.raised.Tie as tie

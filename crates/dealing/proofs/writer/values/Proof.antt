@@ -7,7 +7,7 @@ use Rattle.words.specs.Lists.{map, filled}
 use Rattle.words.proofs.Lists.{filled-none}
 use Rattle.field.specs.Polynomial.{valueAt}
 use Rattle.sharing.specs.Setting.{members}
-use Rattle.records.proofs.Members.{members-next}
+use Rattle.sharing.proofs.EachMember.{members-next}
 use Rattle.dealing.proofs.writer.values.Statement.{statement}
 use Rattle.dealing.proofs.writer.values.Tie as tie
 

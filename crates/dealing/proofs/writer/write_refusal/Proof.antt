@@ -1,15 +1,14 @@
 -- `write_refusal` meets its contract: each return by the tests that led to it, and the keys by their stage.
-use mathlib.Core.Path.{_≡_, refl, sym, ap, _∙_}
-use mathlib.Core.Bool.{Bool, _&&_}
+use mathlib.Core.Path.{_≡_, refl, _∙_}
 use mathlib.Core.List.{_++_}
+use mathlib.Core.Logic.{⊎-elim}
 use borrow.Author.Needs.{needs}
-use Rattle.words.specs.Lists.{all}
 use Rattle.words.specs.Checks.{refusal}
-use Rattle.words.proofs.Tests.{passed, failed, true-and, pick-true, pick-false}
+use Rattle.words.proofs.Tests.{passed, failed}
 use Rattle.words.proofs.Stages.{stage-met, stage-number, rest-number}
-use Rattle.group.specs.Element.{isExponent}
 use Rattle.records.specs.Keys.{keyChecks}
-use Rattle.dealing.specs.Dealing.{addressChecks, writeSizeChecks, secretChecks, writeDealingChecks}
+use Rattle.lines.specs.Lines.{addressChecks}
+use Rattle.dealing.specs.Dealing.{writeSizeChecks, secretChecks, writeDealingChecks}
 use Rattle.dealing.proofs.writer.write_refusal.Statement.{statement}
 use Rattle.dealing.proofs.writer.write_refusal.Tie as tie
 
@@ -62,30 +61,22 @@ returns-3 c = stage-number (keyChecks _ _) (c .before .keys-refusal .ensures) (s
 all-exponents-requires : tie.Need-all-exponents-requires
 all-exponents-requires c κs = search needs
 
+all-exponents-requires-2 : tie.Need-all-exponents-requires-2
+all-exponents-requires-2 c κs = search needs
+
 returns-4 : tie.Need-returns-4
 unfolding secretChecks
 returns-4 c =
-    let a = c .before .before .before .before .before .before .before .before .before .before .before .args in
-    sym (pick-false _ _ _ (ap (λ (b : Bool). b && all (isExponent (a .s .group)) (a .ws .now)) (failed (c .before .all-exponents .ensures) (c .if4 .taken))))
-    ∙ secrets-decide (c .before .before)
-
-all-exponents-requires-2 : tie.Need-all-exponents-requires-2
-all-exponents-requires-2 c κs = search needs
+    let e = c .before .all-exponents .ensures in
+    rw (← secrets-decide (c .before .before))
+    (⊎-elim (λ w. simp (failed e (w .taken))) (λ w. simp (passed e (w .0 .left), failed (w .1 .ensures) (w .2 .taken))) (c .if4 .came))
 
 returns-5 : tie.Need-returns-5
 unfolding secretChecks
 returns-5 c =
     let f = c .before .before in
-    let a = f .before .before .before .before .before .before .before .before .before .before .before .args in
-    sym (pick-false _ _ _ (ap (λ (b : Bool). b && all (isExponent (a .s .group)) (a .ws .now)) (passed (f .before .all-exponents .ensures) (f .if4 .left)) ∙ failed (c .before .all-exponents2 .ensures) (c .if5 .taken)))
-    ∙ secrets-decide (f .before .before)
-
-returns-6 : tie.Need-returns-6
-unfolding secretChecks
-returns-6 c =
-    let f = c .before .before in
-    sym (pick-true _ _ _ (true-and _ _ (passed (f .before .all-exponents .ensures) (f .if4 .left)) (passed (c .before .all-exponents2 .ensures) (c .if5 .left))))
-    ∙ secrets-decide (f .before .before)
+    rw (← secrets-decide (f .before .before))
+    (simp (passed (f .before .all-exponents .ensures) (f .if4 .left), passed (c .before .all-exponents2 .ensures) (c .if5 .left)))
 
 pub write-refusal-spec : {M : Type 1} → statement M
 write-refusal-spec =
@@ -98,7 +89,6 @@ write-refusal-spec =
     keys-refusal-requires
     returns-3
     all-exponents-requires
-    returns-4
     all-exponents-requires-2
-    returns-5
-    returns-6)
+    returns-4
+    returns-5)

@@ -1,8 +1,12 @@
 -- `groups::group_in` meets its contract: no bytes leave the number to the built-in groups, else the number of records decides.
-use mathlib.Core.Path.{_≡_, sym, ap, _∙_}
+use mathlib.Core.Path.{sym, ap, _∙_}
+use mathlib.Core.Logic.{⊎-elim}
 use mathlib.Core.List.{List}
+use Prim.Native.Nat.{_≤_}
 use native.Mathlib.Omega.{arith}
 use borrow.Author.Needs.{needs}
+use borrow.Author.Tests.{ltb-true, ltb-false}
+use Rattle.words.specs.Bytes.{recordsIn}
 use Rattle.words.specs.Checks.{value}
 use Rattle.group.specs.Table.{groupsOf, lookedUp}
 use Rattle.group.specs.declared.Group.{Group}
@@ -20,37 +24,32 @@ returns c =
 
 returns-2 : tie.Need-returns-2
 returns-2 c =
-    let a = c .before .before .before .args in
-    simp (number-zero (groupsOf (a .table .now)) (a .number) (c .if2 .taken))
-
-returns-3 : tie.Need-returns-3
-returns-3 c =
-    let d = c .before .before in
+    let d = c .before in
     let a = d .before .before .args in
-    simp (number-high (a .table .now) (a .number) (d .if1 .left) (omega (arith, c .before .if2 .left)) (omega (arith, c .if3 .taken)))
+    ⊎-elim
+    (λ x. simp (number-zero (groupsOf (a .table .now)) (a .number) (x .taken)))
+    (λ x. simp (number-high (a .table .now) (a .number) (d .if1 .left) (x .0 .left) (ltb-true (recordsIn (a .table .now)) (a .number) (x .1 .taken))))
+    (c .if2 .came)
+
+-- past the test there is a record of that number
+there : (c : tie.Else3) → let a = c .before .before .before .before .args in a .number ≤ recordsIn (a .table .now)
+there c = let a = c .before .before .before .before .args in ltb-false (recordsIn (a .table .now)) (a .number) (c .if3 .left)
 
 sub-group-at : tie.Need-sub-group-at
 sub-group-at c = search needs
 
 group-at-requires : tie.Need-group-at-requires
-group-at-requires c κs = search needs
+group-at-requires c κs = omega (arith, there c)
 
-returns-4 : tie.Need-returns-4
-returns-4 c =
+returns-3 : tie.Need-returns-3
+returns-3 c =
     let d = c .before in
     let e = d .before .before in
     let a = e .before .before .args in
-    let s = number-at (a .table .now) (a .number) (e .if1 .left) (omega (arith, d .before .if2 .left)) (omega (arith, d .if3 .left)) in
+    let s = number-at (a .table .now) (a .number) (e .if1 .left) (d .before .if2 .left) (there d) in
     ap value (c .group-at .ensures) ∙ sym (simp (s .0, s .1))
 
 pub group-in-spec : {M : Type 1} → statement M
 group-in-spec =
     tie.close
-    (tie.spec
-    built-in-requires
-    returns
-    returns-2
-    returns-3
-    sub-group-at
-    group-at-requires
-    returns-4)
+    (tie.spec built-in-requires returns returns-2 sub-group-at group-at-requires returns-3)

@@ -2,7 +2,7 @@
 use mathlib.Core.Path.{ap}
 use Prim.Native.Nat.{ℕ, _+_, _-_, _*_}
 use borrow.Author.Needs.{needs}
-use Rattle.plots.specs.Sorting.{keyOf}
+use Rattle.plots.specs.Sorting.{sortKey}
 use Rattle.plots.proofs.rank.key.Statement.{statement}
 use Rattle.plots.proofs.rank.key.Tie as tie
 
@@ -22,7 +22,7 @@ add-result : tie.Need-add-result
 add-result c = search needs
 
 returns : tie.Need-returns
-unfolding keyOf
+unfolding sortKey
 returns c = ap (λ (x : ℕ). x * 4294967296 + (4294967295 - c .before .args .plot)) (c .rank .ensures)
 
 pub key-spec : {M : Type 1} → statement M

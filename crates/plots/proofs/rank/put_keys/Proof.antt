@@ -7,7 +7,7 @@ use lib.ListN.{length}
 use Rattle.words.specs.Lists.{upFrom}
 use Rattle.words.proofs.Lists.{map-length, map-at, up-length, up-at}
 use Rattle.plots.specs.Rank.{rank}
-use Rattle.plots.specs.Sorting.{keyOf, keysOf}
+use Rattle.plots.specs.Sorting.{sortKey, keysOf}
 use Rattle.plots.proofs.Loops.{Copied, copied-next, copied-end}
 use Rattle.plots.proofs.rank.put_keys.Statement.{statement}
 use Rattle.plots.proofs.rank.put_keys.Tie as tie
@@ -23,7 +23,7 @@ loop-holds : tie.Need-loop-holds Inv-loop μ-loop
 loop-holds c =
     let a = c .before .args in
     let n : ℕ = length (a .keys .now) in
-    (refl, record { size = sym (map-length (keyOf (rank (a .value .0) (a .radius))) (upFrom 1 n) ∙ up-length 1 n); front = refl })
+    (refl, record { size = sym (map-length (sortKey (rank (a .value .0) (a .radius))) (upFrom 1 n) ∙ up-length 1 n); front = refl })
 
 cast-key : tie.Need-cast-key Inv-loop μ-loop
 cast-key c = search needs
@@ -50,7 +50,7 @@ loop-again : tie.Need-loop-again Inv-loop μ-loop
 loop-again c =
     let l = c .before .before .loop in
     let a = c .before .before .before .before .args in
-    let f = keyOf (rank (a .value .0) (a .radius)) in
+    let f = sortKey (rank (a .value .0) (a .radius)) in
     let n : ℕ = length (a .keys .now) in
     let h : l .i < n = omega arith in
     let s = map-length f (upFrom 1 n) ∙ up-length 1 n in (

@@ -1,4 +1,5 @@
 -- `admission_refusal` meets its contract: each test that fails decides.
+use mathlib.Core.Logic.{⊎-elim}
 use borrow.Author.Needs.{needs}
 use borrow.Author.Tests.{eq-eqb, ne-eqb}
 use Rattle.words.proofs.Tests.{passed, failed}
@@ -20,23 +21,16 @@ returns-2 c = simp (passed (c .before .before .are-members .ensures) (c .before 
 is-key-requires : tie.Need-is-key-requires
 is-key-requires c κs = search needs
 
-returns-3 : tie.Need-returns-3
-unfolding shareAdmissionChecks membersChecks shareInputChecks shareFormChecks
-returns-3 c =
-    let m = c .before .before .before .before in
-    simp
-    (passed (m .are-members .ensures) (c .before .before .before .if1 .left), eq-eqb _ 32 (c .before .before .if2 .left), failed (c .before .is-key .ensures) (c .if3 .taken))
-
 is-element-requires : tie.Need-is-element-requires
 is-element-requires c κs = search needs
 
-returns-4 : tie.Need-returns-4
+returns-3 : tie.Need-returns-3
 unfolding shareAdmissionChecks membersChecks shareInputChecks shareFormChecks
-returns-4 c =
-    let k = c .before .before .before in
-    let m = k .before .before .before in
-    simp
-    (passed (m .are-members .ensures) (k .before .before .if1 .left), eq-eqb _ 32 (k .before .if2 .left), passed (k .is-key .ensures) (c .before .before .if3 .left), failed (c .before .is-element .ensures) (c .if4 .taken))
+returns-3 c =
+    let m = passed (c .before .before .before .before .are-members .ensures) (c .before .before .before .if1 .left) in
+    let l = eq-eqb _ 32 (c .before .before .if2 .left) in
+    let k = c .before .is-key .ensures in
+    ⊎-elim (λ w. simp (m, l, failed k (w .taken))) (λ w. simp (m, l, passed k (w .0 .left), failed (w .1 .ensures) (w .2 .taken))) (c .if3 .came)
 
 read-record-requires : tie.Need-read-record-requires
 read-record-requires c κs = search needs
@@ -44,9 +38,9 @@ read-record-requires c κs = search needs
 is-share-of-requires : tie.Need-is-share-of-requires
 is-share-of-requires c κs = search needs
 
-returns-5 : tie.Need-returns-5
+returns-4 : tie.Need-returns-4
 unfolding shareAdmissionChecks membersChecks shareInputChecks shareFormChecks
-returns-5 c =
+returns-4 c =
     let r = c .before .before in
     let e = r .before .before in
     let k = e .before .before in
@@ -57,9 +51,9 @@ returns-5 c =
 is-of-round-requires : tie.Need-is-of-round-requires
 is-of-round-requires c κs = search needs
 
-returns-6 : tie.Need-returns-6
+returns-5 : tie.Need-returns-5
 unfolding shareAdmissionChecks membersChecks shareInputChecks shareFormChecks
-returns-6 c =
+returns-5 c =
     let f = c .before .before .before in
     let r = f .before in
     let e = r .before .before in
@@ -68,9 +62,9 @@ returns-6 c =
     simp
     (← r .read-record .ensures, passed (m .are-members .ensures) (k .before .before .if1 .left), eq-eqb _ 32 (k .before .if2 .left), passed (k .is-key .ensures) (e .before .if3 .left), passed (e .is-element .ensures) (r .before .if4 .left), passed (f .is-share-of .ensures) (c .before .before .if5 .left), failed (c .before .is-of-round .ensures) (c .if6 .taken))
 
-returns-7 : tie.Need-returns-7
+returns-6 : tie.Need-returns-6
 unfolding shareAdmissionChecks membersChecks shareInputChecks shareFormChecks
-returns-7 c =
+returns-6 c =
     let f = c .before .before .before in
     let r = f .before in
     let e = r .before .before in
@@ -87,12 +81,11 @@ admission-refusal-spec =
     returns
     returns-2
     is-key-requires
-    returns-3
     is-element-requires
-    returns-4
+    returns-3
     read-record-requires
     is-share-of-requires
-    returns-5
+    returns-4
     is-of-round-requires
-    returns-6
-    returns-7)
+    returns-5
+    returns-6)

@@ -32,8 +32,8 @@ returns-2 c =
     let a = k .before .before .args in
     let A = admission-none _ _ _ _ _ _ (k .admission-refusal .ensures) (r .before .if1 .left) in
     c .judge-share-figures .ensures
-    ∙ ap (λ (x : Record). judgeShareFiguresIn (a .s) (a .form) (a .i) (a .y .0) (a .encrypted .0) x) (r .read-record .ensures)
-    ∙ figures-decide (a .s) (a .form) (a .i) (a .y .0) (a .encrypted .0) (a .b .now) A
+    ∙ ap (λ (x : Record). judgeShareFiguresIn (a .s) (a .e .form) (a .e .member) (a .y .0) (a .e .encrypted .0) x) (r .read-record .ensures)
+    ∙ figures-decide (a .s) (a .e .form) (a .e .member) (a .y .0) (a .e .encrypted .0) (a .b .now) A
 
 pub judge-in-spec : {M : Type 1} → statement M
 judge-in-spec = tie.close (tie.spec admission-refusal-requires returns read-record-requires judge-share-figures-requires returns-2)

@@ -1,4 +1,5 @@
 -- `judge_share_figures` meets its contract: each test that fails decides, and where none does the share is answered.
+use mathlib.Core.Logic.{⊎-elim}
 use borrow.Author.Needs.{needs}
 use borrow.Author.Tests.{eq-eqb, ne-eqb}
 use Rattle.words.proofs.Tests.{passed, failed}
@@ -16,29 +17,22 @@ returns c = simp (failed (c .before .is-element .ensures) (c .if1 .taken))
 is-exponent-requires : tie.Need-is-exponent-requires
 is-exponent-requires c κs = search needs
 
-returns-2 : tie.Need-returns-2
-unfolding judgeShareFiguresIn shareFigureChecks
-returns-2 c =
-    let e = c .before .before .before in
-    simp (passed (e .is-element .ensures) (c .before .before .if1 .left), failed (c .before .is-exponent .ensures) (c .if2 .taken))
-
 is-exponent-requires-2 : tie.Need-is-exponent-requires-2
 is-exponent-requires-2 c κs = search needs
 
-returns-3 : tie.Need-returns-3
+returns-2 : tie.Need-returns-2
 unfolding judgeShareFiguresIn shareFigureChecks
-returns-3 c =
-    let x = c .before .before .before in
-    let e = x .before .before in
-    simp
-    (passed (e .is-element .ensures) (x .before .if1 .left), passed (x .is-exponent .ensures) (c .before .before .if2 .left), failed (c .before .is-exponent2 .ensures) (c .if3 .taken))
+returns-2 c =
+    let e = passed (c .before .before .before .is-element .ensures) (c .before .before .if1 .left) in
+    let x = c .before .is-exponent .ensures in
+    ⊎-elim (λ w. simp (e, failed x (w .taken))) (λ w. simp (e, passed x (w .0 .left), failed (w .1 .ensures) (w .2 .taken))) (c .if2 .came)
 
 recomputed-requires : tie.Need-recomputed-requires
 recomputed-requires c κs = search needs
 
-returns-4 : tie.Need-returns-4
+returns-3 : tie.Need-returns-3
 unfolding judgeShareFiguresIn shareFigureChecks
-returns-4 c =
+returns-3 c =
     let t = c .before .before .before in
     let z = t .before .before in
     let x = z .before .before in
@@ -46,9 +40,9 @@ returns-4 c =
     simp
     (passed (e .is-element .ensures) (x .before .if1 .left), passed (x .is-exponent .ensures) (z .before .if2 .left), passed (z .is-exponent2 .ensures) (t .before .if3 .left), ← t .recomputed .ensures, ne-eqb _ _ (c .if4 .taken))
 
-returns-5 : tie.Need-returns-5
+returns-4 : tie.Need-returns-4
 unfolding judgeShareFiguresIn shareFigureChecks
-returns-5 c =
+returns-4 c =
     let t = c .before .before .before in
     let z = t .before .before in
     let x = z .before .before in
@@ -63,9 +57,8 @@ judge-share-figures-spec =
     is-element-requires
     returns
     is-exponent-requires
-    returns-2
     is-exponent-requires-2
-    returns-3
+    returns-2
     recomputed-requires
-    returns-4
-    returns-5)
+    returns-3
+    returns-4)

@@ -18,10 +18,10 @@ share-challenge-requires c κs = search needs
 returns : tie.Need-returns
 unfolding shareRecomputed
 returns c =
-    let a = c .before .before .before .args in
+    let a = c .before .before .before .before .args in
     let a1 = c .before .before .announced .ensures in
     let a2 = c .before .announced2 .ensures in
-    c .share-challenge .ensures ∙ (λ j. challengeOf (a .s) (shareMessage (a .form .tag) (a .s) (a .form .dealer) (a .i) (a .y .0) (a .encrypted .0) (a .share .w3) (a1 j) (a2 j)))
+    c .share-challenge .ensures ∙ (λ j. challengeOf (a .s) (shareMessage (a .e .form .tag) (a .s) (a .e .form .dealer) (a .e .member) (a .y .0) (a .e .encrypted .0) (a .share .w3) (a1 j) (a2 j)))
 
 pub recomputed-spec : {M : Type 1} → statement M
 recomputed-spec = tie.close (tie.spec announced-requires announced-requires-2 share-challenge-requires returns)

@@ -31,7 +31,7 @@ share-record-requires : tie.Need-share-record-requires
 share-record-requires c κs = search needs
 
 write-record-requires : tie.Need-write-record-requires
-write-record-requires c κs = c .before .before .before .before .before .before .before .before .before .before .pre .6
+write-record-requires c κs = c .before .before .before .before .before .before .before .before .before .before .before .before .pre .6
 
 same-length : tie.Need-same-length
 same-length c = search needs
@@ -47,10 +47,10 @@ returns c =
     let y = a1 .before in
     let Z = y .before in
     let k = Z .before in
-    let a = k .before .before .args in
+    let a = k .before .before .before .before .args in
     p .write-record .ensures
     ∙ ap recordBytes (l .share-record .ensures)
-    ∙ share-bytes (a .s) (a .form) (a .i) (a .encrypted .0) (a .x .0) (a .w .0) (k .inverse .ensures) (Z .power .ensures) (y .power2 .ensures) (a1 .power3 .ensures) (a2 .power4 .ensures) (h .share-challenge .ensures) (r .response .ensures)
+    ∙ share-bytes (a .s) (a .e .form) (a .e .member) (a .e .encrypted .0) (a .x .0) (a .w .0) (k .inverse .ensures) (Z .power .ensures) (y .power2 .ensures) (a1 .power3 .ensures) (a2 .power4 .ensures) (h .share-challenge .ensures) (r .response .ensures)
 
 pub put-share-spec : {M : Type 1} → statement M
 put-share-spec =

@@ -1,4 +1,5 @@
 -- `write_refusal` meets its contract: each test that fails decides.
+use mathlib.Core.Logic.{⊎-elim}
 use borrow.Author.Needs.{needs}
 use borrow.Author.Tests.{eq-eqb, ne-eqb}
 use Rattle.words.proofs.Tests.{passed, failed}
@@ -30,29 +31,22 @@ returns-3 c =
 is-secret-key-requires : tie.Need-is-secret-key-requires
 is-secret-key-requires c κs = search needs
 
+is-exponent-requires : tie.Need-is-exponent-requires
+is-exponent-requires c κs = search needs
+
 returns-4 : tie.Need-returns-4
 unfolding writeShareChecks membersChecks
 returns-4 c =
     let e = c .before .before .before in
-    let m = e .before .before .before in
-    simp
-    (passed (m .are-members .ensures) (e .before .before .if1 .left), eq-eqb _ 32 (e .before .if2 .left), passed (e .is-element .ensures) (c .before .before .if3 .left), failed (c .before .is-secret-key .ensures) (c .if4 .taken))
-
-is-exponent-requires : tie.Need-is-exponent-requires
-is-exponent-requires c κs = search needs
+    let m = passed (e .before .before .before .are-members .ensures) (e .before .before .if1 .left) in
+    let l = eq-eqb _ 32 (e .before .if2 .left) in
+    let Y = passed (e .is-element .ensures) (c .before .before .if3 .left) in
+    let x = c .before .is-secret-key .ensures in
+    ⊎-elim (λ w. simp (m, l, Y, failed x (w .taken))) (λ w. simp (m, l, Y, passed x (w .0 .left), failed (w .1 .ensures) (w .2 .taken))) (c .if4 .came)
 
 returns-5 : tie.Need-returns-5
 unfolding writeShareChecks membersChecks
 returns-5 c =
-    let k = c .before .before .before in
-    let e = k .before .before in
-    let m = e .before .before .before in
-    simp
-    (passed (m .are-members .ensures) (e .before .before .if1 .left), eq-eqb _ 32 (e .before .if2 .left), passed (e .is-element .ensures) (k .before .if3 .left), passed (k .is-secret-key .ensures) (c .before .before .if4 .left), failed (c .before .is-exponent .ensures) (c .if5 .taken))
-
-returns-6 : tie.Need-returns-6
-unfolding writeShareChecks membersChecks
-returns-6 c =
     let k = c .before .before .before in
     let e = k .before .before in
     let m = e .before .before .before in
@@ -69,7 +63,6 @@ write-refusal-spec =
     is-element-requires
     returns-3
     is-secret-key-requires
-    returns-4
     is-exponent-requires
-    returns-5
-    returns-6)
+    returns-4
+    returns-5)

@@ -6,13 +6,12 @@ use native.Mathlib.Omega.{arith}
 use lib.ListN.{length}
 use borrow.Author.Needs.{needs}
 use Rattle.words.specs.Bytes.{recordsIn}
-use Rattle.words.specs.Checks.{Outcome, Met}
+use Rattle.words.specs.Checks.{Outcome, Met, checkOutcomeOf}
 use Rattle.words.proofs.Checks.{value-met, if-met}
 use Rattle.words.proofs.Stages.{met-both}
 use Rattle.sharing.specs.Setting.{settingIn, roundChecks, judged, judgedElse}
-use Rattle.sharing.specs.Answer.{checkOutcomeOf}
-use Rattle.sharing.specs.declared.CheckAnswer.{CheckAnswer}
-use Rattle.sharing.specs.declared.CheckAnswer.the-variants.{Passed}
+use Rattle.words.specs.declared.CheckAnswer.{CheckAnswer}
+use Rattle.words.specs.declared.CheckAnswer.the-variants.{Passed}
 use Rattle.sharing.specs.declared.Round.{Round}
 use Rattle.board.specs.Board.{linesStart, linesOf, linesChecks, linesOutcome, linesPart, linesAt}
 use Rattle.board.specs.Sorted.{Sorted}

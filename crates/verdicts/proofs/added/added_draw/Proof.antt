@@ -2,7 +2,6 @@
 use mathlib.Core.Path.{_≡_, sym, _∙_, subst}
 use borrow.Author.Needs.{needs}
 use lib.ListN.{length, take}
-use Rattle.dealing.specs.Dealing.{YIn}
 use Rattle.share.specs.declared.ShareForm.{ShareForm}
 use Rattle.verdicts.specs.Shares.{judges, sharesIn, fromLowest}
 use Rattle.verdicts.specs.Posted.{SharesOn}
@@ -11,6 +10,7 @@ use Rattle.verdicts.proofs.Secrets.{full-taken}
 use Rattle.verdicts.proofs.Products.{products-front, added-shares}
 use Rattle.verdicts.proofs.added.added_draw.Statement.{statement}
 use Rattle.verdicts.proofs.added.added_draw.Tie as tie
+use Rattle.lines.specs.Lines.{YIn}
 
 cast-n : tie.Need-cast-n
 cast-n c = search needs

@@ -6,7 +6,7 @@ use borrow.Author.Needs.{needs}
 use Rattle.words.specs.Lists.{map, filled}
 use Rattle.words.proofs.Lists.{filled-none}
 use Rattle.sharing.specs.Setting.{members}
-use Rattle.records.proofs.Members.{members-next}
+use Rattle.sharing.proofs.EachMember.{members-next}
 use Rattle.verdicts.proofs.added.ones.Statement.{statement}
 use Rattle.verdicts.proofs.added.ones.Tie as tie
 

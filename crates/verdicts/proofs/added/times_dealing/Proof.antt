@@ -5,11 +5,10 @@ use Prim.Native.Nat.{ℕ}
 use native.Mathlib.Omega.{arith}
 use borrow.Author.Needs.{needs}
 use lib.ListN.{length}
-use Rattle.words.specs.Lists.{map, filled}
+use Rattle.words.specs.Lists.{map, filled, entry}
 use Rattle.field.specs.Residue.{mul}
 use Rattle.sharing.specs.Setting.{members}
-use Rattle.records.specs.Layout.{entry}
-use Rattle.dealing.specs.Dealing.{YIn}
+use Rattle.lines.specs.Lines.{YIn}
 use Rattle.board.proofs.Order.{reached, sorted}
 use Rattle.verdicts.proofs.Products.{accepts, part-told, part-none, part-size}
 use Rattle.verdicts.proofs.added.times_dealing.Statement.{statement}

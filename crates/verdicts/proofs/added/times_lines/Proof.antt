@@ -3,15 +3,15 @@ use mathlib.Core.Path.{_≡_, sym, ap, _∙_}
 use Prim.Native.Nat.{_+_, _-_, _≤_}
 use native.Mathlib.Omega.{arith}
 use borrow.Author.Needs.{needs}
-use Rattle.words.specs.Lists.{map, filled}
+use Rattle.words.specs.Lists.{map, filled, entry}
 use Rattle.words.specs.Bytes.{recordAt}
 use Rattle.words.specs.declared.Record.{Record}
-use Rattle.words.proofs.Lists.{filled-none}
+use Rattle.words.proofs.Lists.{filled-none, entry-at}
 use Rattle.field.specs.Residue.{mul}
 use Rattle.sharing.specs.Setting.{members}
-use Rattle.records.specs.Layout.{YOf, entry}
-use Rattle.records.proofs.Members.{members-next, entry-at}
-use Rattle.dealing.specs.Dealing.{YIn}
+use Rattle.sharing.proofs.EachMember.{members-next}
+use Rattle.records.specs.Layout.{YOf}
+use Rattle.lines.specs.Lines.{YIn}
 use Rattle.verdicts.proofs.added.times_lines.Statement.{statement}
 use Rattle.verdicts.proofs.added.times_lines.Tie as tie
 

@@ -5,7 +5,6 @@ use native.Mathlib.Omega.{arith}
 use borrow.Author.Needs.{needs}
 use lib.ListN.{take}
 use lib.Seq.{length-take-le}
-use Rattle.records.proofs.Members.{members-front}
 use Rattle.board.specs.Board.{keyIn, keysIn}
 use Rattle.board.proofs.Order.{reached, sorted}
 use Rattle.verdicts.specs.Shares.{judges}
@@ -14,6 +13,7 @@ use Rattle.verdicts.proofs.Turns.{DealersAbove, above-start, above-next
 use Rattle.verdicts.proofs.Judgements.{above-judged}
 use Rattle.verdicts.proofs.judge.all_verdicts.Statement.{statement}
 use Rattle.verdicts.proofs.judge.all_verdicts.Tie as tie
+use Rattle.sharing.proofs.EachMember.{members-front}
 
 abbrev Inv-loop : tie.InvT-loop
 Inv-loop s b n ys verdicts₀ accepted₀ stuck₀ product₀ d₀ verdicts accepted stuck product d =

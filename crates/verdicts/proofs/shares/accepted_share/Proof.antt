@@ -3,7 +3,7 @@ use mathlib.Core.Path.{ap, _∙_}
 use native.Mathlib.Omega.{arith}
 use borrow.Author.Needs.{needs}
 use Rattle.words.specs.Bytes.{recordAt}
-use Rattle.records.specs.Layout.{entry}
+use Rattle.words.specs.Lists.{entry}
 use Rattle.verdicts.proofs.ShareAnswers.{shares-sorted, share-member, share-dealer, answered}
 use Rattle.verdicts.proofs.shares.accepted_share.Statement.{statement}
 use Rattle.verdicts.proofs.shares.accepted_share.Tie as tie
@@ -28,11 +28,11 @@ sub-at c =
     let w = r .before .before .before in
     omega (arith, share-member (w .pre .1) (w .pre .0) (r .record-at .ensures) .0)
 
-mul-t10 : tie.Need-mul-t10
-mul-t10 c = search needs
+mul-t11 : tie.Need-mul-t11
+mul-t11 c = search needs
 
-shared-slice-read-t12 : tie.Need-shared-slice-read-t12
-shared-slice-read-t12 c =
+shared-slice-read-t13 : tie.Need-shared-slice-read-t13
+shared-slice-read-t13 c =
     let r = c .before .before .before .before in
     let w = r .before .before .before in
     let m = share-member (w .pre .1) (w .pre .0) (r .record-at .ensures) in
@@ -63,7 +63,7 @@ accepted-share-spec =
     record-at-requires-2
     cast-at
     sub-at
-    mul-t10
-    shared-slice-read-t12
+    mul-t11
+    shared-slice-read-t13
     judge-share-figures-requires
     returns)

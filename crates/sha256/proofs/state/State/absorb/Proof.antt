@@ -2,7 +2,7 @@
 use mathlib.Core.Path.{_∙_}
 use borrow.Author.Needs.{needs}
 use Rattle.sha256.specs.Word.{_⊞_}
-use Rattle.sha256.specs.Hash.{rounds, plus, compress}
+use Rattle.sha256.specs.Hash.{rounds, addStates, compress}
 use Rattle.sha256.proofs.state.State.absorb.Statement.{statement}
 use Rattle.sha256.proofs.state.State.absorb.Tie as tie
 
@@ -37,7 +37,7 @@ wrapping-add-u32-requires-8 : tie.Need-wrapping-add-u32-requires-8
 wrapping-add-u32-requires-8 c κs = search needs
 
 returns : tie.Need-returns
-unfolding compress plus
+unfolding compress addStates
 returns c =
     let s7 = c .before in
     let s6 = s7 .before in

@@ -1,5 +1,0 @@
--- Proofs of what specs/Claims.antt states.
-pub mod Front
-pub mod Found
-pub mod Verdicts
-pub mod End

@@ -1,2 +1,0 @@
--- What is claimed of the records of kind 5.
-pub mod Claims

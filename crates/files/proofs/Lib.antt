@@ -1,0 +1,2 @@
+-- The laws that proofs of this crate, and of those who call it, share.
+pub mod Answers

@@ -1,0 +1,2 @@
+-- What the contracts on files cite.
+pub mod Answer

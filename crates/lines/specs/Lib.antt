@@ -1,0 +1,3 @@
+-- A dealing's records as lines and as columns.
+pub mod Lines
+pub mod Columns

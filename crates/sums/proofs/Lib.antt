@@ -1,2 +1,0 @@
--- Proofs of what specs/Claims.antt states.
-pub mod Sums
