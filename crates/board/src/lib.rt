@@ -1,4 +1,6 @@
 // The board before verdicts: its form, its keys, a dealer's lines and opening.
+#![tactic(auto)]
+
 mod form;
 mod keys;
 mod parts;
@@ -9,7 +11,7 @@ pub use parts::{dealer_lines, lines_check, lines_of};
 pub use search::{find_key, find_opening, place_of, record_count};
 
 // Whether every member has a key, and then their keys: member i's at i - 1, and 0 behind them.
-#[derive(Drop)]
+#[derive(Clone, Copy)]
 pub struct FoundKeys {
     pub complete: bool,
     pub ys: [u32; 31],

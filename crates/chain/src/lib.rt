@@ -1,4 +1,6 @@
 // The chain of seasons: each link has the draw value of a season, and a digest that hangs on the one before.
+#![tactic(auto)]
+
 ghost use Rattle.std.specs.Prelude.{◌≡◌, ◌≤◌, ◌<◌, length};
 ghost use Rattle.words.specs.Checks.{refusal, check_outcome_of};
 ghost use Rattle.group.specs.Table.{groups_of};

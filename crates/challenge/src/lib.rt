@@ -1,4 +1,6 @@
 // The hashed messages, and the exponents that their digests give.
+#![tactic(auto)]
+
 mod exponent;
 mod message;
 
@@ -7,7 +9,7 @@ pub use message::{ADDED_TAG, SHARE_TAG, check_polynomial, dealing_challenge, sha
 
 // What the challenge of a decrypted share is drawn from: dealer (0 for an added share) and member, the member's key y, the encrypted
 // and the decrypted share, and the announcements.
-#[derive(Drop)]
+#[derive(Clone, Copy)]
 pub struct ShareFigures {
     pub dealer: u32,
     pub member: u32,

@@ -1,4 +1,6 @@
 // A dealing: the judge and the writer.
+#![tactic(auto)]
+
 mod judge;
 mod writer;
 
@@ -8,7 +10,7 @@ use words::CheckAnswer;
 pub use writer::{write_dealing, write_dealing_in};
 
 // What the judge of a dealing's lines answers, with their figures beside it, which it has read.
-#[derive(Drop)]
+#[derive(Clone, Copy)]
 pub struct LinesAnswer {
     pub answer: CheckAnswer,
     pub figures: Columns,

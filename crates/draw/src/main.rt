@@ -1,4 +1,6 @@
 // Reads groups.tab, round.set and board.bin from the current folder, and writes the text of the draw to standard output.
+#![tactic(auto)]
+
 use files::read_or_empty;
 use libc::STDOUT_FILENO;
 

@@ -1,4 +1,6 @@
 // Arithmetic on residues modulo m, where a product is taken in 64 bits, and the test of a prime.
+#![tactic(auto)]
+
 ghost use Rattle.std.specs.Prelude.{◌≡◌, ◌<◌};
 ghost use Rattle.field.specs.Residue.{sub, mul, inv};
 ghost use Rattle.field.specs.Prime.{Prime};

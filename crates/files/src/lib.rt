@@ -4,13 +4,15 @@
 // and a read answers -1 or a count of at most the bytes that it was lent. The calls are opening, reading, looking at the arguments, writing,
 // and setting the C library's error number for what cannot be a path. No contract says what bytes a file or an argument holds. The last
 // lines of a program's check name the calls that it makes, and count them.
+#![tactic(auto)]
+
 ghost use Rattle.io.specs.Counts.{IsPrefixLen};
 ghost use Rattle.files.specs.Answer.{Answered};
 
 use libc::STDERR_FILENO;
 
 // What was read of a file or an argument: so many bytes, at the start of the space that was lent; or nothing, since it is missing.
-#[derive(Drop)]
+#[derive(Clone, Copy)]
 pub enum FileAnswer {
     Bytes(usize),
     Missing,

@@ -1,4 +1,6 @@
 // Groups of prime order inside the residues modulo a prime: tables of them, and the operation power.
+#![tactic(auto)]
+
 ghost use Rattle.std.specs.Prelude.{◌≡◌};
 ghost use Rattle.group.specs.Answer.{element_outcome_of, power_in, power_outcome};
 
@@ -11,15 +13,15 @@ pub use membership::{all_elements, all_exponents, is_element, is_exponent, is_ge
 use words::refusal;
 
 // A residue modulo q.
-#[derive(Drop)]
+#[derive(Clone, Copy)]
 pub struct Exponent(pub u32);
 
 // A residue modulo p.
-#[derive(Drop)]
+#[derive(Clone, Copy)]
 pub struct Element(pub u32);
 
 // The modulus p, the order q, and the two generators g and h.
-#[derive(Drop)]
+#[derive(Clone, Copy)]
 pub struct Group {
     pub p: u32,
     pub q: u32,
@@ -27,13 +29,13 @@ pub struct Group {
     pub h: Element,
 }
 
-#[derive(Drop)]
+#[derive(Clone, Copy)]
 pub enum GroupAnswer {
     Value(Group),
     Refused(u32),
 }
 
-#[derive(Drop)]
+#[derive(Clone, Copy)]
 pub enum ElementAnswer {
     Value(Element),
     Refused(u32),

@@ -1,4 +1,6 @@
 // A dealing's n records, as lines and as columns.
+#![tactic(auto)]
+
 mod figures;
 mod form;
 
@@ -6,7 +8,7 @@ pub use figures::{put_lines, read_lines};
 pub use form::lines_refusal;
 
 // The figures of a dealing's lines: v, Y, r and c of each member, and 0 behind them.
-#[derive(Drop)]
+#[derive(Clone, Copy)]
 pub struct Columns {
     pub vs: [u32; 31],
     pub encrypted: [u32; 31],

@@ -1,4 +1,6 @@
 // Picking plots: the k of N plots that come first by a draw value.
+#![tactic(auto)]
+
 ghost use Rattle.std.specs.Prelude.{◌≡◌, ◌≤◌, length};
 ghost use Rattle.words.specs.Checks.{refusal, check_outcome_of};
 ghost use Rattle.plots.specs.Sorting.{keys_of, sorted_keys, spare_after};

@@ -1,4 +1,6 @@
 // What stands on a board: one layout for each kind of record, and keys.
+#![tactic(auto)]
+
 mod keys;
 mod layout;
 

@@ -1,5 +1,7 @@
 // From a table of groups, a round and a board to one answer: the refusal, or the setting and the judgement. Whatever prints,
 // hands on or audits a judged board starts here.
+#![tactic(auto)]
+
 ghost use Rattle.std.specs.Prelude.{◌≡◌};
 ghost use Rattle.words.specs.Checks.{refusal};
 ghost use Rattle.sharing.specs.Setting.{setting_outcome_of};
@@ -16,7 +18,7 @@ use words::{read_record, refusal};
 
 // The setting, where verdicts are reached, and the judgement on the board. Where a check before the verdicts refuses, both hold its number,
 // and there are no verdicts.
-#[derive(Drop)]
+#[derive(Clone, Copy)]
 pub struct Ruling {
     pub setting: SettingAnswer,
     pub judgement: Judgement,

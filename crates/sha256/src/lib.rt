@@ -1,4 +1,6 @@
 // SHA-256, as FIPS 180-4 defines it.
+#![tactic(auto)]
+
 ghost use Rattle.std.specs.Prelude.{◌≡◌};
 ghost use Rattle.sha256.specs.Answer.{outcome_of, digest_outcome};
 
@@ -12,7 +14,7 @@ pub use state::State;
 use words::{Record, refusal};
 
 // The digest as eight words, or the number of a refusal.
-#[derive(Drop)]
+#[derive(Clone, Copy)]
 pub enum DigestAnswer {
     Value(Record),
     Refused(u32),

@@ -10,7 +10,7 @@ use std::num::wrapping_add_u32;
 use words::Record;
 
 // The hash value, or the working variables.
-#[derive(Drop)]
+#[derive(Clone, Copy)]
 pub struct State {
     pub a: u32,
     pub b: u32,

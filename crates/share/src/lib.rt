@@ -1,4 +1,6 @@
 // Decrypted shares, opened or added: the writers and the judges.
+#![tactic(auto)]
+
 mod form;
 mod judge;
 mod writer;
@@ -9,7 +11,7 @@ pub use judge::{judge_added, judge_share, judge_share_figures};
 pub use writer::{write_added, write_share};
 
 // The form of a share: the tag of its message, the kind of its record, and its dealer, 0 for an added share.
-#[derive(Drop)]
+#[derive(Clone, Copy)]
 pub struct ShareForm {
     pub tag: u8,
     pub kind: u32,
@@ -18,7 +20,7 @@ pub struct ShareForm {
 
 // An encrypted share, as a decrypted one is written from it and judged for it: the form of the decrypted one, the member, and the
 // encrypted share of his line, or for an added share the product of those of his lines over all accepted dealings.
-#[derive(Drop)]
+#[derive(Clone, Copy)]
 pub struct EncryptedShare {
     pub form: ShareForm,
     pub member: u32,

@@ -1,4 +1,6 @@
 // One dealing's commitments: the degree check, the opening and recovery, each over a table and a round, and in their setting.
+#![tactic(auto)]
+
 ghost use Rattle.std.specs.Prelude.{◌≡◌, ◌&&◌, eqb, length};
 ghost use Rattle.words.specs.Checks.{check_outcome_of};
 ghost use Rattle.group.specs.Answer.{element_outcome_of};
@@ -21,7 +23,7 @@ use words::{CheckAnswer, passed_if, refusal};
 // A round's figures as they are lent, unjudged: the group's number, the number of members, the threshold, the round's number and
 // the first round whose exponents come from the whole digest, 0 for none.
 #[repr(C)]
-#[derive(Drop)]
+#[derive(Clone, Copy)]
 pub struct Round {
     pub group: u32,
     pub n: u32,
@@ -32,7 +34,7 @@ pub struct Round {
 
 // What operations work on: the group, its number, the number of members, the threshold, the round's number and whether exponents
 // come from the whole digest.
-#[derive(Drop)]
+#[derive(Clone, Copy)]
 pub struct Setting {
     pub group: Group,
     pub number: u32,
@@ -42,7 +44,7 @@ pub struct Setting {
     pub whole_digest: bool,
 }
 
-#[derive(Drop)]
+#[derive(Clone, Copy)]
 pub enum SettingAnswer {
     Value(Setting),
     Refused(u32),

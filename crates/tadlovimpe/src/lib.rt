@@ -6,6 +6,8 @@
 // An answer is the number of a refusal, 0 where there is none, or a struct that begins with it; the text of `draw` says itself what is
 // refused, and its length is the answer. On a refusal `out` keeps what it had and the struct's other fields are 0, but for the count and
 // the verdicts of a board that was judged (specs/Claims.antt).
+#![tactic(auto)]
+
 mod answers;
 mod arithmetic;
 mod boards;
@@ -15,7 +17,7 @@ mod seasons;
 
 // The number of a refusal, and the value.
 #[repr(C)]
-#[derive(Drop)]
+#[derive(Clone, Copy)]
 pub struct Answer {
     pub refusal: u32,
     pub value: u32,
@@ -23,7 +25,7 @@ pub struct Answer {
 
 // A proof with lent figures that x1 is b1 and x2 is b2 to one exponent.
 #[repr(C)]
-#[derive(Drop)]
+#[derive(Clone, Copy)]
 pub struct Proof {
     pub b1: u32,
     pub x1: u32,
@@ -37,7 +39,7 @@ pub struct Proof {
 
 // A part of a board: the number of a refusal, how many bytes behind the board's start the part begins, and how many bytes it has.
 #[repr(C)]
-#[derive(Drop)]
+#[derive(Clone, Copy)]
 pub struct Part {
     pub refusal: u32,
     pub start: usize,
@@ -46,7 +48,7 @@ pub struct Part {
 
 // A dealer's verdict: 0 none; 1 refused, and the number; 2 opened, and the secret; 3 recovered, and the secret; 4 stuck.
 #[repr(C)]
-#[derive(Drop)]
+#[derive(Clone, Copy)]
 pub struct VerdictFigures {
     pub kind: u32,
     pub value: u32,
@@ -55,7 +57,7 @@ pub struct VerdictFigures {
 // A judged board: the number of a refusal, the draw value, the count of accepted dealings, and the verdict on dealer d at d - 1. A board
 // that is refused by 13 or 14 was judged: the count and the verdicts stay.
 #[repr(C)]
-#[derive(Drop)]
+#[derive(Clone, Copy)]
 pub struct BoardAnswer {
     pub refusal: u32,
     pub value: u32,

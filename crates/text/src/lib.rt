@@ -1,4 +1,6 @@
 // The text that `draw` prints, from the bytes of its three files.
+#![tactic(auto)]
+
 ghost use Rattle.std.specs.Prelude.{◌≡◌, ◌++◌, length, drop};
 ghost use Rattle.verdicts.specs.Shares.{judges};
 ghost use Rattle.text.specs.Text.{draw_text};

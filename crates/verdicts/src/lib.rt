@@ -1,4 +1,6 @@
 // Every dealer's verdict, the count of accepted dealings and the draw.
+#![tactic(auto)]
+
 mod added;
 mod judge;
 mod shares;
@@ -8,14 +10,14 @@ use group::{Element, ElementAnswer};
 pub use judge::all_verdicts;
 
 // How the secret of an accepted dealing came.
-#[derive(Drop)]
+#[derive(Clone, Copy)]
 pub enum Secret {
     Opened(Element),
     Recovered(Element),
     Stuck,
 }
 
-#[derive(Drop)]
+#[derive(Clone, Copy)]
 pub enum Verdict {
     None,
     Refused(u32),
@@ -23,13 +25,13 @@ pub enum Verdict {
 }
 
 // A dealer's verdict, as an array holds it.
-#[derive(Drop)]
+#[derive(Clone, Copy)]
 pub struct DealerVerdict {
     pub verdict: Verdict,
 }
 
 // The lowest members with accepted shares, and these shares: two arrays with 0 behind them, and how many there are.
-#[derive(Drop)]
+#[derive(Clone, Copy)]
 pub struct GatheredShares {
     pub members: [u32; 31],
     pub shares: [u32; 31],
@@ -37,14 +39,14 @@ pub struct GatheredShares {
 }
 
 // A product for each member, member i's at i - 1, and 0 behind them.
-#[derive(Drop)]
+#[derive(Clone, Copy)]
 pub struct MemberProducts {
     pub of: [u32; 31],
 }
 
 // Every dealer's verdict (dealer d at d - 1, those above n None), the count of accepted dealings, and the draw: the beacon's output,
 // or the number of the refusal.
-#[derive(Drop)]
+#[derive(Clone, Copy)]
 pub struct Judgement {
     pub verdicts: [DealerVerdict; 31],
     pub accepted: u32,

@@ -1,4 +1,6 @@
 // Words and records of bytes, as every figure of a board is posted, lists of words, and the answer of a check.
+#![tactic(auto)]
+
 ghost use Rattle.std.specs.Prelude.{◌≡◌, ◌+◌, ◌*◌, ◌≤◌, length};
 ghost use Rattle.words.specs.Choice.{pick};
 ghost use Rattle.words.specs.Checks.{value, refused, check_outcome_of};
@@ -10,7 +12,7 @@ pub mod refusal;
 pub use distinct::none_twice;
 
 // Eight words: a record of a board, or a digest.
-#[derive(Drop)]
+#[derive(Clone, Copy)]
 pub struct Record {
     pub w0: u32,
     pub w1: u32,
@@ -23,7 +25,7 @@ pub struct Record {
 }
 
 // The answer of a check that yields no value.
-#[derive(Drop)]
+#[derive(Clone, Copy)]
 pub enum CheckAnswer {
     Passed,
     Refused(u32),

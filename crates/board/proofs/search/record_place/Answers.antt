@@ -1,0 +1,35 @@
+-- `record_place` meets its contract: the record at the address's place has the address, or none has.
+use mathlib.Core.Path.{◌≡◌, sym, ap, ◌∙◌}
+use mathlib.Core.Bool.{Bool}
+use mathlib.Core.List.{List}
+use Prim.Native.Nat.{ℕ}
+use native.Mathlib.Omega.{arith}
+use borrow.Author.Tests.{not-true, not-false}
+use Rattle.words.specs.Bytes.{record_at}
+use Rattle.words.specs.declared.Record.{Record}
+use Rattle.board.specs.Board.{is_at, place_of}
+use Rattle.board.proofs.Places.{only-record, no-record}
+use Rattle.board.proofs.search.record_place.Goals as goal
+
+-- the test of the record that was read at the place
+at_place : (b : List ℕ) (k d m : ℕ) {p : ℕ} {r : Record} {s t : Bool} → p ≡ place_of b k d m → r ≡ record_at b p → s ≡ is_at r k d m → s ≡ t
+    → is_at (record_at b (place_of b k d m)) k d m ≡ t
+at_place b k d m h e f g = ap (λ (x : Record). is_at x k d m) (sym (e ∙ ap (record_at b) h)) ∙ sym f ∙ g
+
+pub returns-then-at-all : goal.returns-then-at-all
+returns-then-at-all c =
+    let a = c.args in
+    let n = c.record_count-all.ensures in
+    n ∙ no-record c.requires a.k a.d a.m (λ l. absurd (omega (arith, n, c.place_of-at.ensures, c.if-at-all.true)))
+
+pub returns-then-not-is_at : goal.returns-then-not-is_at
+returns-then-not-is_at c =
+    let a = c.args in
+    let e = at_place a.b.now a.k a.d a.m c.place_of-at.ensures c.record_at.ensures c.is_at.ensures (not-true _ c.if-not-is_at.true-raw) in
+    c.record_count-all.ensures ∙ no-record c.requires a.k a.d a.m (λ l. e)
+
+pub returns : goal.returns
+returns c =
+    let a = c.args in
+    let e = at_place a.b.now a.k a.d a.m c.place_of-at.ensures c.record_at.ensures c.is_at.ensures (not-false _ c.if-not-is_at.false-raw) in
+    c.place_of-at.ensures ∙ only-record c.requires a.k a.d a.m (place_of a.b.now a.k a.d a.m) (omega arith) e

@@ -1,0 +1,51 @@
+-- `check_polynomial` meets its contract. The loop's invariant: the array holds the first k coefficients, and 0 behind; and the buffer
+-- holds the message of the last of them, at the start that of the coefficient 0.
+use mathlib.Core.Path.{◌≡◌, refl, ap, ◌∙◌}
+use Prim.Native.Nat.{ℕ, ◌+◌, ◌-◌, ◌*◌}
+use native.Mathlib.Omega.{arith}
+use lib.ListN.{length-set}
+use Rattle.words.specs.Lists.{entry}
+use Rattle.words.proofs.Lists.{filled_none, run-next}
+use Rattle.sharing.specs.declared.Setting.{Setting}
+use Rattle.challenge.specs.Message.{challenge_of, coefficient_message, check_polynomial}
+use Rattle.challenge.proofs.Buffers.{coefficient-put, coefficient-next}
+use Rattle.challenge.proofs.message.check_polynomial.Goals as goal
+
+abbrev coefficient_of : Setting → ℕ → (ℕ → ℕ) → (ℕ → ℕ) → ℕ → ℕ
+coefficient_of S d v Y k = challenge_of S (coefficient_message S d v Y k)
+
+pub loop-k-init : goal.loop-k-init
+loop-k-init c =
+    (omega arith, omega (arith, c.requires.0.n-most), c.coefficient_message-at.auto.0 ∙ refl, coefficient-put _ _ _ _ 0 0 c.coefficient_message-at.ensures.1 _ _ c.coefficient_message-at.ensures.2 refl (omega arith), filled_none 31)
+
+pub challenge-requires : goal.challenge-requires
+challenge-requires c = (c.requires.0, simp length-set (omega (arith, c.requires.0.n-most)), omega (arith, c.requires.0.n-most))
+
+pub loop-k-preserved : goal.loop-k-preserved
+loop-k-preserved c =
+    let l = c.loop-k in
+    let a = c.args in
+    let v = entry a.vs.now in
+    let Y = entry a.encrypted.now in
+    let f = coefficient_of a.s a.d v Y in
+    let e : l.k ≡ 0 + l.k = omega arith in
+    let b : l.k ≡ l.k + 1 - 1 = omega arith in
+    let p =
+    coefficient-next a.s a.d v Y (l.k - 1) l.k c.coefficient_message-at.ensures.1 (c.coefficient_message-at.result + 1 + 8 * a.s.n) l.m
+    (omega arith) l.invariant.3
+    in (
+      omega arith,
+      l.invariant.1,
+      simp length-set l.invariant.2,
+      p ∙ ap (coefficient_message a.s a.d v Y) b,
+      run-next f 31 0 l.k l.invariant.4 (omega arith)
+          (c.challenge.ensures ∙ ap (challenge_of a.s) p ∙ ap f e),
+    )
+
+pub returns : goal.returns
+unfolding check_polynomial
+returns c =
+    let l = c.loop-k in
+    let a = c.args in
+    let e : l.k ≡ a.s.n - a.s.t = omega arith in
+    rw e at l.invariant.4

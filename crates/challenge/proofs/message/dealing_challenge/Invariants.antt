@@ -1,0 +1,15 @@
+-- `dealing_challenge` meets its contract. The loop's invariant: the words of the first i members stand behind the head.
+use mathlib.Core.Path.{◌≡◌}
+use Prim.Native.Nat.{◌-◌, ◌≤◌}
+use lib.ListN.{length}
+use Rattle.words.specs.Bytes.{put_at}
+use Rattle.sharing.specs.Setting.{members}
+use Rattle.challenge.specs.Message.{bytes_over}
+use Rattle.challenge.proofs.message.dealing_challenge.Given as goal
+
+abbrev pub invariant-loop-i : goal.invariant-loop-i
+invariant-loop-i l =
+    (l.i ≤ l.n) × (l.n ≤ 31) × (l.at ≤ 16) × (length l.m ≡ 512) × (l.m ≡ put_at l.at (bytes_over (words l.vs l.encrypted l.a1s l.a2s) (members l.i)) l.initial.m)
+
+abbrev pub decreases-loop-i : goal.decreases-loop-i
+decreases-loop-i l = l.n - l.i

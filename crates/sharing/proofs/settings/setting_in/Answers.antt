@@ -1,0 +1,21 @@
+-- `settings::setting_in` meets its contract: the look-up tells the group or that there is none, and then the range decides.
+use Rattle.words.proofs.Tests.{passed, failed}
+use Rattle.group.proofs.Answers.{group-value, group-refused}
+use Rattle.sharing.specs.Setting.{round_figures, figures_outcome}
+use Rattle.sharing.proofs.settings.setting_in.Goals as goal
+
+pub returns-in_default : goal.returns-in_default
+unfolding figures_outcome round_figures
+returns-in_default c = simp (group-refused _ _ c.group_in.ensures c.in_default.is)
+
+pub returns-then-not-in_range : goal.returns-then-not-in_range
+unfolding figures_outcome round_figures
+returns-then-not-in_range c =
+    let g = group-value _ _ c.group_in.ensures c.in-Value.is in
+    simp (g.0, g.1, failed c.in_range.ensures c.if-not-in_range.true-raw)
+
+pub returns : goal.returns
+unfolding figures_outcome round_figures
+returns c =
+    let g = group-value _ _ c.group_in.ensures c.in-Value.is in
+    simp (g.0, g.1, passed c.in_range.ensures c.if-not-in_range.false-raw, c.takes_whole.ensures)

@@ -1,0 +1,13 @@
+-- `verdicts_of` meets its contract. The loop's invariant: the first i places hold the figures of the first i places.
+use mathlib.Core.Path.{◌≡◌}
+use Prim.Native.Nat.{◌-◌, ◌≤◌}
+use lib.ListN.{length, take}
+use Rattle.words.specs.Lists.{map}
+use Rattle.tadlovimpe.specs.Figures.{place_of}
+use Rattle.tadlovimpe.proofs.answers.verdicts_of.Given as goal
+
+abbrev pub invariant-loop-i : goal.invariant-loop-i
+invariant-loop-i l = (l.i ≤ 31) × (length l.vs ≡ 31) × (take l.i l.vs ≡ take l.i (map place_of l.places))
+
+abbrev pub decreases-loop-i : goal.decreases-loop-i
+decreases-loop-i l = 31 - l.i

@@ -1,0 +1,7 @@
+-- `tadlovimpe_judge_dealing` meets its contract: the operation's answer as figures.
+use mathlib.Core.Path.{ap, ◌∙◌}
+use Rattle.tadlovimpe.specs.Figures.{number_of}
+use Rattle.tadlovimpe.proofs.posted.tadlovimpe_judge_dealing.Goals as goal
+
+pub returns : goal.returns
+returns c = c.number_of.ensures ∙ ap number_of c.judge_dealing.ensures

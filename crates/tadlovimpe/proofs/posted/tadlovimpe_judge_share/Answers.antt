@@ -1,0 +1,7 @@
+-- `tadlovimpe_judge_share` meets its contract: the operation's answer as figures.
+use mathlib.Core.Path.{ap, ◌∙◌}
+use Rattle.tadlovimpe.specs.Figures.{answer_of}
+use Rattle.tadlovimpe.proofs.posted.tadlovimpe_judge_share.Goals as goal
+
+pub returns : goal.returns
+returns c = c.answer_of.ensures ∙ ap answer_of c.judge_share.ensures

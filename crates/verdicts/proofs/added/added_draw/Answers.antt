@@ -1,0 +1,38 @@
+-- `added_draw` meets its contract: the first n places of the array are what added shares are judged with.
+use mathlib.Core.Path.{◌≡◌, sym, ◌∙◌, subst}
+use lib.ListN.{length, take}
+use Rattle.share.specs.declared.ShareForm.{ShareForm}
+use Rattle.verdicts.specs.Shares.{judges, shares_in, from_lowest}
+use Rattle.verdicts.specs.Posted.{SharesOn}
+use Rattle.verdicts.specs.Added.{multiplied}
+use Rattle.verdicts.proofs.Secrets.{full-taken}
+use Rattle.verdicts.proofs.Products.{products-front, added-shares}
+use Rattle.lines.specs.Lines.{Y_in}
+use Rattle.verdicts.proofs.added.added_draw.Goals as goal
+use Rattle.verdicts.proofs.added.added_draw.Lts as lts
+
+-- the first n places
+front : (c : lts.After-multiplied_shares-products) → let a = c.args in take a.s.n c.multiplied_shares-products.result.of ≡ multiplied judges a.s a.b.now Y_in
+front c =
+    products-front c.args.s c.args.b.now c.requires.0 c.requires.1 c.multiplied_shares-products.ensures
+
+front-size : (c : lts.After-multiplied_shares-products) → let a = c.args in length (take a.s.n c.multiplied_shares-products.result.of) ≡ a.s.n
+front-size c =
+    (added-shares c.args.s c.args.b.now c.requires.0 c.requires.1 (front c)).size
+
+pub slice_bounds-encrypted-end : goal.slice_bounds-encrypted-end
+slice_bounds-encrypted-end c = full-taken _ _ (front-size c.before.before)
+
+pub slice_bounds-from_lowest-end : goal.slice_bounds-from_lowest-end
+slice_bounds-from_lowest-end c = sym (front-size c.before.before.before)
+
+pub from_lowest-requires : goal.from_lowest-requires
+from_lowest-requires c =
+    let a = c.args in
+    subst (λ (F : ShareForm). SharesOn a.s a.b.now F (take a.s.n c.multiplied_shares-products.result.of)) (sym c.added_form.ensures)
+    (added-shares a.s a.b.now c.requires.0 c.requires.1 (front c.before.before.before))
+
+pub returns : goal.returns
+returns c =
+    let a = c.args in
+    c.from_lowest.ensures ∙ (λ j. from_lowest a.s a.b.now (shares_in judges a.s a.b.now (c.added_form.ensures j) (front c.before.before.before.before j)))

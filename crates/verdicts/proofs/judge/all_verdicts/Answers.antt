@@ -1,0 +1,64 @@
+-- `all_verdicts` meets its contract. The loop's invariant: what is held is what the dealers above d give.
+use mathlib.Core.Path.{◌≡◌, sym}
+use native.Mathlib.Omega.{arith}
+use borrow.Author.Rules.{rules}
+use lib.ListN.{take}
+use lib.Seq.{length-take-le}
+use Rattle.board.specs.Board.{key_in, keys_in}
+use Rattle.board.proofs.Order.{reached, sorted}
+use Rattle.verdicts.specs.Shares.{judges}
+use Rattle.verdicts.specs.Verdict.{verdict_on}
+use Rattle.verdicts.proofs.Turns.{above-start, above-next, all-verdicts, count_most}
+use Rattle.verdicts.proofs.Judgements.{above-judged}
+use Rattle.sharing.proofs.EachMember.{members-front}
+use Rattle.verdicts.proofs.judge.all_verdicts.Goals as goal
+use Rattle.verdicts.proofs.judge.all_verdicts.Lts as lts
+
+pub board_keys-ys-requires : goal.board_keys-ys-requires
+board_keys-ys-requires c =
+    let b = c.args.b.now in
+    let r = reached c.args.s b c.requires.1 in
+    (c.requires.0.n-most, r.keys, sorted c.args.s b r.form)
+
+pub loop-d-init : goal.loop-d-init
+loop-d-init c =
+    let a = c.args in
+    (c.requires.0.n-most, omega (arith, c.requires.0.proper.prime-p.above-one), above-start (verdict_on judges a.s a.b.now) a.s.group.p a.s.n)
+
+-- the first n places of the array are the members' keys
+front : (c : lts.After-board_keys-ys invariant-loop decreases-loop) → let a = c.args in take a.s.n c.board_keys-ys.result ≡ keys_in a.s.n a.b.now
+front c = let a = c.args in members-front (key_in a.b.now) a.s.n c.board_keys-ys.ensures
+
+pub slice_bounds-verdict-end : goal.slice_bounds-verdict-end
+slice_bounds-verdict-end c = sym (length-take-le _ _ (search rules))
+
+pub verdict-v-requires : goal.verdict-v-requires
+verdict-v-requires c = (c.requires.0, c.requires.1, front c.before.before.before)
+
+pub overflow_add-accepted : goal.overflow_add-accepted
+overflow_add-accepted c =
+    let l = c.loop-d in
+    omega (arith, c.count_one-accepted.ensures, count_most c.verdict-v.result, l.invariant.2.few, l.invariant.0)
+
+pub loop-d-preserved : goal.loop-d-preserved
+loop-d-preserved c =
+    let l = c.loop-d in
+    let i = l.invariant in (
+      i.0,
+      i.1,
+      above-next _ _ _ l.d l.verdicts l.accepted l.stuck l.product.0 i.2 c.loop-d-test.true i.0
+          c.verdict-v.result c.count_one-accepted.result c.any_stuck-stuck.result c.times_secret-product.result.0
+          c.verdict-v.ensures c.count_one-accepted.ensures c.any_stuck-stuck.ensures c.times_secret-product.ensures,
+    )
+
+pub draw_answer-requires : goal.draw_answer-requires
+draw_answer-requires c =
+    let l = c.loop-d in
+    let a = c.args in
+    (c.requires.0, c.requires.1, all-verdicts (verdict_on judges a.s a.b.now) _ a.s.n l.d l.verdicts l.accepted l.stuck l.product.0 l.invariant.2 (omega (arith, c.loop-d-test.false)))
+
+pub returns : goal.returns
+returns c =
+    let l = c.loop-d in
+    let a = c.args in
+    above-judged judges a.s a.b.now l.d l.verdicts l.accepted l.stuck l.product l.invariant.2 (omega (arith, c.loop-d-test.false)) _ c.draw_answer.ensures

@@ -1,0 +1,29 @@
+-- `from_lowest` meets its contract: fewer than t found are refused, and t found are what recovery is given.
+use mathlib.Core.Path.{sym, ◌∙◌}
+use Rattle.verdicts.specs.Shares.{judges}
+use Rattle.verdicts.proofs.Secrets.{members-count, shares-count, members-room, shares-room, found-low, found-few, found-enough}
+use Rattle.verdicts.proofs.shares.from_lowest.Goals as goal
+
+pub returns-then-k-s : goal.returns-then-k-s
+returns-then-k-s c = found-few judges c.requires c.lowest_shares-found.ensures c.if-k-s.true
+
+pub slice_bounds-members-end : goal.slice_bounds-members-end
+slice_bounds-members-end c = members-room judges c.requires c.lowest_shares-found.ensures
+
+pub slice_bounds-recovered_from-end : goal.slice_bounds-recovered_from-end
+slice_bounds-recovered_from-end c = sym (members-count judges c.requires c.lowest_shares-found.ensures)
+
+pub slice_bounds-shares-end : goal.slice_bounds-shares-end
+slice_bounds-shares-end c = shares-room judges c.requires c.lowest_shares-found.ensures
+
+pub slice_bounds-recovered_from-end-2 : goal.slice_bounds-recovered_from-end-2
+slice_bounds-recovered_from-end-2 c = sym (shares-count judges c.requires c.lowest_shares-found.ensures)
+
+pub recovered_from-requires : goal.recovered_from-requires
+recovered_from-requires c =
+    let L = c.requires in
+    let e = c.lowest_shares-found.ensures in
+    (L.proper.proper, found-low judges L e, members-count judges L e ∙ sym (shares-count judges L e))
+
+pub returns : goal.returns
+returns c = found-enough judges c.requires c.lowest_shares-found.ensures c.if-k-s.false c.recovered_from.ensures
