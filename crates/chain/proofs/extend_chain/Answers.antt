@@ -12,36 +12,39 @@ use Rattle.group.specs.Table.{groups_of}
 use Rattle.chain.specs.Chain.{links_in, chain_checks, next_checks, extend_checks, extend_outcome, lent_link}
 use Rattle.chain.proofs.Steps.{extend-numbered}
 use Rattle.chain.proofs.extend_chain.Goals as goal
-use Rattle.chain.proofs.extend_chain.Lts as lts
-
-abbrev checks : lts.Start → List Check
-checks c = extend_checks c.args.table.now c.args.b.now c.args.number c.args.value.0 (length c.args.out.now)
-
--- where the link is written every check is met
-met : (c : lts.Else-refused-ne0) → Met (checks c.before.before.before.before.before)
-met c =
-    let a = c.args in
-    (none-exactly (checks c.before.before.before.before.before) (extend-numbered a.table.now a.b.now a.number a.value.0 (length a.out.now))).0
-    (sym c.extend_refusal-refused.ensures ∙ c.if-refused-ne0.false)
 
 pub returns-then-refused-ne0 : goal.returns-then-refused-ne0
 unfolding extend_outcome lent_link
 returns-then-refused-ne0 c =
-    let cs = checks c.before.before.before.before.before in
+    let checks : List Check =
+        extend_checks c.args.table.now c.args.b.now c.args.number c.args.value.0 (length c.args.out.now) in
+    let cs = checks in
     (last-refused cs c.extend_refusal-refused.ensures c.if-refused-ne0.true tt, last-kept cs c.extend_refusal-refused.ensures c.if-refused-ne0.true _ _)
 
 pub put_next-requires : goal.put_next-requires
 unfolding extend_checks
 put_next-requires c =
+    let checks : List Check =
+        extend_checks c.args.table.now c.args.b.now c.args.number c.args.value.0 (length c.args.out.now) in
+    let met : Met checks =
+        let a = c.args in
+    (none-exactly checks (extend-numbered a.table.now a.b.now a.number a.value.0 (length a.out.now))).0
+    (sym c.extend_refusal-refused.ensures ∙ c.if-refused-ne0.false) in
     let a = c.args in
     let T = a.table.now in
     let b = a.b.now in
-    let m = (met-both (chain_checks T b) (next_checks (groups_of T) b a.number a.value.0 (length a.out.now)) (met c.before)).1 in
+    let m = (met-both (chain_checks T b) (next_checks (groups_of T) b a.number a.value.0 (length a.out.now)) met).1 in
     let s = and-true (ltb (links_in b) 1024) _ m.0 in
     (ltb-true (links_in b) 1024 s.0, eqb-true (length a.out.now) 64 s.1)
 
 pub returns : goal.returns
 unfolding extend_outcome lent_link
 returns c =
-    let cs = checks c.before.before.before.before.before.before.before.before.before in
-    (sym ((value-exactly Unit cs tt).1 (met c.before.before.before.before)), c.put_next.ensures ∙ sym (if-met _ _ cs (met c.before.before.before.before)))
+    let checks : List Check =
+        extend_checks c.args.table.now c.args.b.now c.args.number c.args.value.0 (length c.args.out.now) in
+    let met : Met checks =
+        let a = c.args in
+    (none-exactly checks (extend-numbered a.table.now a.b.now a.number a.value.0 (length a.out.now))).0
+    (sym c.extend_refusal-refused.ensures ∙ c.if-refused-ne0.false) in
+    let cs = checks in
+    (sym ((value-exactly Unit cs tt).1 met), c.put_next.ensures ∙ sym (if-met _ _ cs met))

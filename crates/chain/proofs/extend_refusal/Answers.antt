@@ -14,7 +14,6 @@ use Rattle.group.specs.Table.{groups_of}
 use Rattle.chain.specs.Chain.{links_in, chain_checks, next_checks, extend_checks}
 use Rattle.chain.proofs.Steps.{chain-numbered}
 use Rattle.chain.proofs.extend_refusal.Goals as goal
-use Rattle.chain.proofs.extend_refusal.Lts as lts
 
 pub returns-then-refused-ne0 : goal.returns-then-refused-ne0
 unfolding extend_checks
@@ -22,31 +21,33 @@ returns-then-refused-ne0 c =
     let a = c.args in
     stage-number (chain_checks a.table.now a.b.now) c.chain_refusal-refused.ensures (next_checks (groups_of a.table.now) a.b.now a.number a.value.0 a.room) c.if-refused-ne0.true
 
--- where the chain is not refused the other checks decide
-left : (c : lts.Else-refused-ne0) → let a = c.args in
-    refusal (next_checks (groups_of a.table.now) a.b.now a.number a.value.0 a.room) ≡ refusal (extend_checks a.table.now a.b.now a.number a.value.0 a.room)
-unfolding extend_checks
-left c =
-    let a = c.args in
-    let cs = chain_checks a.table.now a.b.now in
-    let m = (none-exactly cs (chain-numbered a.table.now a.b.now)).0 (sym c.chain_refusal-refused.ensures ∙ c.if-refused-ne0.false) in
-    rest-number cs (next_checks (groups_of a.table.now) a.b.now a.number a.value.0 a.room) m
-
 -- where the chain is not full the room decides
 more : (room : ℕ) {m n : ℕ} {b : Bool} → m ≡ n → m < 1024 → eqb room 64 ≡ b → (ltb n 1024 && eqb room 64) ≡ b
 more room {n = n} e h f = ap (λ (b : Bool). b && eqb room 64) (lt-ltb n 1024 (omega (arith, e))) ∙ f
 
 pub returns-then-links-ge1024 : goal.returns-then-links-ge1024
+unfolding extend_checks
 returns-then-links-ge1024 c =
+    let left : let a = c.args in refusal (next_checks (groups_of a.table.now) a.b.now a.number a.value.0 a.room) ≡ refusal (extend_checks a.table.now a.b.now a.number a.value.0 a.room) =
+        let a = c.args in
+    let cs = chain_checks a.table.now a.b.now in
+    let m = (none-exactly cs (chain-numbered a.table.now a.b.now)).0 (sym c.chain_refusal-refused.ensures ∙ c.if-refused-ne0.false) in
+    rest-number cs (next_checks (groups_of a.table.now) a.b.now a.number a.value.0 a.room) m in
     let a = c.args in
     let f : (ltb (links_in a.b.now) 1024 && eqb a.room 64) ≡ false =
     ⊎_elim
     (λ x. ap (λ (b : Bool). b && eqb a.room 64) (le-ltb (links_in a.b.now) 1024 (omega (arith, c.links.ensures, x.taken))))
     (λ x. more a.room c.links.ensures x.0.left (not-true _ x.1.taken))
     c.if-links-ge1024.branch-raw in
-    sym (pick-false _ _ 3 f) ∙ left c.before.before
+    sym (pick-false _ _ 3 f) ∙ left
 
 pub returns : goal.returns
+unfolding extend_checks
 returns c =
+    let left : let a = c.args in refusal (next_checks (groups_of a.table.now) a.b.now a.number a.value.0 a.room) ≡ refusal (extend_checks a.table.now a.b.now a.number a.value.0 a.room) =
+        let a = c.args in
+    let cs = chain_checks a.table.now a.b.now in
+    let m = (none-exactly cs (chain-numbered a.table.now a.b.now)).0 (sym c.chain_refusal-refused.ensures ∙ c.if-refused-ne0.false) in
+    rest-number cs (next_checks (groups_of a.table.now) a.b.now a.number a.value.0 a.room) m in
     let f = more c.args.room c.links.ensures c.if-links-ge1024.false (not-false _ c.if-room-ne64.false-raw) in
-    c.value_refusal.ensures ∙ sym (pick_true _ _ 3 f) ∙ left c.before.before.before.before
+    c.value_refusal.ensures ∙ sym (pick_true _ _ 3 f) ∙ left

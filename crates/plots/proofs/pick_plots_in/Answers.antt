@@ -9,36 +9,46 @@ use Rattle.words.proofs.Stages.{last-refused, last-kept, stage-met}
 use Rattle.plots.specs.Picked.{picked, pick_checks, pick_in, lent_plots_in}
 use Rattle.plots.proofs.Operation.{Pickable, pickable}
 use Rattle.plots.proofs.pick_plots_in.Goals as goal
-use Rattle.plots.proofs.pick_plots_in.Lts as lts
-
-abbrev checks : lts.Start → List Check
-checks c = pick_checks c.args.gr c.args.value c.args.radius c.args.total c.args.count (length c.args.out.now)
-
--- where the work starts every check is met
-met : (c : lts.Else-refused-ne0) → Met (checks c.before.before.before)
-met c = stage-met (checks c.before.before.before) c.pick_refusal-refused.ensures refl c.if-refused-ne0.false
-
--- and this is settled
-settled : (c : lts.Else-refused-ne0) → let a = c.args in Pickable a.radius a.total a.count (length a.out.now)
-settled c = pickable _ _ _ _ (met c).1
 
 pub returns-then-refused-ne0 : goal.returns-then-refused-ne0
 unfolding pick_in lent_plots_in
 returns-then-refused-ne0 c =
-    let cs = checks c.before.before.before in
+    let checks : List Check =
+        pick_checks c.args.gr c.args.value c.args.radius c.args.total c.args.count (length c.args.out.now) in
+    let cs = checks in
     (last-refused cs c.pick_refusal-refused.ensures c.if-refused-ne0.true tt, last-kept cs c.pick_refusal-refused.ensures c.if-refused-ne0.true _ _)
 
 pub overflow_cast-radius : goal.overflow_cast-radius
-overflow_cast-radius c = record { fits = (settled c).radius-low }
+overflow_cast-radius c =
+    let checks : List Check =
+        pick_checks c.args.gr c.args.value c.args.radius c.args.total c.args.count (length c.args.out.now) in
+    let met : Met checks =
+        stage-met checks c.pick_refusal-refused.ensures refl c.if-refused-ne0.false in
+    let settled : let a = c.args in Pickable a.radius a.total a.count (length a.out.now) =
+        pickable _ _ _ _ met.1 in
+    record { fits = settled.radius-low }
 
 pub put_picked-requires : goal.put_picked-requires
-put_picked-requires c = let p = settled c.before in (p.N-most, omega (arith, p.size, p.k-most))
+put_picked-requires c =
+    let checks : List Check =
+        pick_checks c.args.gr c.args.value c.args.radius c.args.total c.args.count (length c.args.out.now) in
+    let met : Met checks =
+        stage-met checks c.pick_refusal-refused.ensures refl c.if-refused-ne0.false in
+    let settled : let a = c.args in Pickable a.radius a.total a.count (length a.out.now) =
+        pickable _ _ _ _ met.1 in
+    let p = settled in (p.N-most, omega (arith, p.size, p.k-most))
 
 pub returns : goal.returns
 unfolding pick_in lent_plots_in
 returns c =
-    let cs = checks c.before.before.before.before.before.before.before in
+    let checks : List Check =
+        pick_checks c.args.gr c.args.value c.args.radius c.args.total c.args.count (length c.args.out.now) in
+    let met : Met checks =
+        stage-met checks c.pick_refusal-refused.ensures refl c.if-refused-ne0.false in
+    let settled : let a = c.args in Pickable a.radius a.total a.count (length a.out.now) =
+        pickable _ _ _ _ met.1 in
+    let cs = checks in
     let a = c.args in (
-      sym ((value-exactly Unit cs tt).1 (met c.before.before.before.before)),
-      c.put_picked.ensures ∙ ap (picked a.value.0 a.radius a.total) (settled c.before.before.before.before).size ∙ sym (if-met _ _ cs (met c.before.before.before.before)),
+      sym ((value-exactly Unit cs tt).1 met),
+      c.put_picked.ensures ∙ ap (picked a.value.0 a.radius a.total) settled.size ∙ sym (if-met _ _ cs met),
     )

@@ -10,19 +10,6 @@ use Rattle.records.specs.Keys.{key_checks}
 use Rattle.lines.specs.Lines.{address_checks, line_checks}
 use Rattle.dealing.specs.Dealing.{judge_size_checks, dealing_form_checks}
 use Rattle.dealing.proofs.judge.form_refusal.Goals as goal
-use Rattle.dealing.proofs.judge.form_refusal.Lts as lts
-
--- where 8 and 3 do not refuse, keys and lines decide
-keys-decide : (c : lts.Else-not-sizes_fit)
-    → let a = c.args in
-    refusal (key_checks a.s.group a.ys.now ++ line_checks a.s a.d a.lines.now) ≡ refusal (dealing_form_checks a.s a.d a.ys.now a.lines.now)
-unfolding dealing_form_checks address_checks judge_size_checks
-keys-decide c =
-    let a = c.args in
-    rest-number
-    (address_checks a.s a.d ++ judge_size_checks a.s a.ys.now a.lines.now)
-    (key_checks a.s.group a.ys.now ++ line_checks a.s a.d a.lines.now)
-    (passed c.is_member.ensures c.if-not-is_member.false-raw, (passed c.sizes_fit.ensures c.if-not-sizes_fit.false-raw, tt))
 
 pub returns-then-not-is_member : goal.returns-then-not-is_member
 unfolding dealing_form_checks address_checks judge_size_checks
@@ -34,8 +21,15 @@ returns-then-not-sizes_fit c =
     simp (passed c.is_member.ensures c.if-not-is_member.false-raw, failed c.sizes_fit.ensures c.if-not-sizes_fit.true-raw)
 
 pub returns-then-k-ne0 : goal.returns-then-k-ne0
+unfolding dealing_form_checks address_checks judge_size_checks
 returns-then-k-ne0 c =
-    stage-number (key_checks _ _) c.keys_refusal-k.ensures (line_checks _ _ _) c.if-k-ne0.true ∙ keys-decide c.before.before
+    let keys-decide : let a = c.args in refusal (key_checks a.s.group a.ys.now ++ line_checks a.s a.d a.lines.now) ≡ refusal (dealing_form_checks a.s a.d a.ys.now a.lines.now) =
+        let a = c.args in
+    rest-number
+    (address_checks a.s a.d ++ judge_size_checks a.s a.ys.now a.lines.now)
+    (key_checks a.s.group a.ys.now ++ line_checks a.s a.d a.lines.now)
+    (passed c.is_member.ensures c.if-not-is_member.false-raw, (passed c.sizes_fit.ensures c.if-not-sizes_fit.false-raw, tt)) in
+    stage-number (key_checks _ _) c.keys_refusal-k.ensures (line_checks _ _ _) c.if-k-ne0.true ∙ keys-decide
 
 pub lines_refusal-requires : goal.lines_refusal-requires
 lines_refusal-requires c =
@@ -43,10 +37,16 @@ lines_refusal-requires c =
     (equal-true (length a.ys.now) a.s.n (length a.lines.now) (32 * a.s.n) (passed c.sizes_fit.ensures c.if-not-sizes_fit.false-raw)).1
 
 pub returns : goal.returns
-unfolding key_checks
+unfolding key_checks dealing_form_checks address_checks judge_size_checks
 returns c =
+    let keys-decide : let a = c.args in refusal (key_checks a.s.group a.ys.now ++ line_checks a.s a.d a.lines.now) ≡ refusal (dealing_form_checks a.s a.d a.ys.now a.lines.now) =
+        let a = c.args in
+    rest-number
+    (address_checks a.s a.d ++ judge_size_checks a.s a.ys.now a.lines.now)
+    (key_checks a.s.group a.ys.now ++ line_checks a.s a.d a.lines.now)
+    (passed c.is_member.ensures c.if-not-is_member.false-raw, (passed c.sizes_fit.ensures c.if-not-sizes_fit.false-raw, tt)) in
     let a = c.args in
     let keys = key_checks a.s.group a.ys.now in
     c.lines_refusal.ensures
     ∙ rest-number keys (line_checks a.s a.d a.lines.now) (stage-met keys c.keys_refusal-k.ensures refl c.if-k-ne0.false)
-    ∙ keys-decide c.before.before.before
+    ∙ keys-decide

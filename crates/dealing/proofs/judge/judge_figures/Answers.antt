@@ -11,35 +11,32 @@ use Rattle.words.proofs.Stages.{stage-met, stage-refused, rest-outcome}
 use Rattle.sharing.specs.Setting.{members}
 use Rattle.dealing.specs.Dealing.{range_checks, equation_checks, figure_checks}
 use Rattle.dealing.proofs.judge.judge_figures.Goals as goal
-use Rattle.dealing.proofs.judge.judge_figures.Lts as lts
-
--- where the ranges do not refuse, the equations decide
-equations-decide : (c : lts.Else-k-ne0)
-    → let a = c.args in
-    let v = entry a.figures.vs in let Y = entry a.figures.encrypted in let r = entry a.figures.rs in let h = entry a.figures.cs in
-    outcome (equation_checks a.s a.d a.ys.now v Y r h) (tt {0}) ≡ outcome (figure_checks a.s a.d a.ys.now v Y r h) tt
-unfolding range_checks
-equations-decide c =
-    let a = c.args in
-    let v = entry a.figures.vs in let Y = entry a.figures.encrypted in let r = entry a.figures.rs in let h = entry a.figures.cs in
-    let ranges = range_checks a.s v Y r h in
-    rest-outcome ranges (equation_checks a.s a.d a.ys.now v Y r h) (stage-met ranges c.range_refusal-k.ensures refl c.if-k-ne0.false) tt
 
 pub returns-then-k-ne0 : goal.returns-then-k-ne0
 returns-then-k-ne0 c =
     stage-refused (range_checks _ _ _ _ _) c.range_refusal-k.ensures (equation_checks _ _ _ _ _ _ _) c.if-k-ne0.true tt
 
 pub returns-then-not-own_check_passes : goal.returns-then-not-own_check_passes
-unfolding equation_checks
+unfolding equation_checks range_checks
 returns-then-not-own_check_passes c =
-    sym (pick-false _ _ _ (failed c.own_check_passes.ensures c.if-not-own_check_passes.true-raw)) ∙ equations-decide c.before.before
+    let equations-decide : let a = c.args in let v = entry a.figures.vs in let Y = entry a.figures.encrypted in let r = entry a.figures.rs in let h = entry a.figures.cs in outcome (equation_checks a.s a.d a.ys.now v Y r h) (tt {0}) ≡ outcome (figure_checks a.s a.d a.ys.now v Y r h) tt =
+        let a = c.args in
+    let v = entry a.figures.vs in let Y = entry a.figures.encrypted in let r = entry a.figures.rs in let h = entry a.figures.cs in
+    let ranges = range_checks a.s v Y r h in
+    rest-outcome ranges (equation_checks a.s a.d a.ys.now v Y r h) (stage-met ranges c.range_refusal-k.ensures refl c.if-k-ne0.false) tt in
+    sym (pick-false _ _ _ (failed c.own_check_passes.ensures c.if-not-own_check_passes.true-raw)) ∙ equations-decide
 
 pub returns : goal.returns
-unfolding equation_checks
+unfolding equation_checks range_checks
 returns c =
+    let equations-decide : let a = c.args in let v = entry a.figures.vs in let Y = entry a.figures.encrypted in let r = entry a.figures.rs in let h = entry a.figures.cs in outcome (equation_checks a.s a.d a.ys.now v Y r h) (tt {0}) ≡ outcome (figure_checks a.s a.d a.ys.now v Y r h) tt =
+        let a = c.args in
+    let v = entry a.figures.vs in let Y = entry a.figures.encrypted in let r = entry a.figures.rs in let h = entry a.figures.cs in
+    let ranges = range_checks a.s v Y r h in
+    rest-outcome ranges (equation_checks a.s a.d a.ys.now v Y r h) (stage-met ranges c.range_refusal-k.ensures refl c.if-k-ne0.false) tt in
     let a = c.args in
     let equal = c.all_equal.ensures ∙ ap (λ (x : ℕ). all (λ i. eqb (entry a.figures.cs i) x) (members a.s.n)) c.recomputed-c.ensures in
     c.passed_if.ensures
     ∙ ap (λ (b : Bool). pick {A = Outcome (Unit {0})} b (value tt) (refused 10)) equal
     ∙ sym (pick_true _ _ _ (passed c.own_check_passes.ensures c.if-not-own_check_passes.false-raw))
-    ∙ equations-decide c.before.before.before.before.before.before
+    ∙ equations-decide

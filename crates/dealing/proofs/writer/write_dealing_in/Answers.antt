@@ -8,28 +8,30 @@ use Rattle.words.proofs.Stages.{last-refused, last-kept}
 use Rattle.dealing.specs.Dealing.{write_dealing_checks, write_dealing_in, lent_dealing_in}
 use Rattle.dealing.proofs.Settled.{writable, write-none}
 use Rattle.dealing.proofs.writer.write_dealing_in.Goals as goal
-use Rattle.dealing.proofs.writer.write_dealing_in.Lts as lts
-
-abbrev checks : lts.Start → List Check
-checks c = write_dealing_checks c.args.s c.args.d c.args.ys.now c.args.f.now c.args.ws.now (length c.args.out.now)
-
--- where the work starts every check is met
-met : (c : lts.Else-k-ne0) → Met (checks c.before.before.before.before.before.before)
-met c = write-none _ _ _ _ _ _ c.write_refusal-k.ensures c.if-k-ne0.false
 
 pub returns-then-k-ne0 : goal.returns-then-k-ne0
 unfolding write_dealing_in lent_dealing_in
 returns-then-k-ne0 c =
-    let cs = checks c.before.before.before.before.before.before in
+    let checks : List Check =
+        write_dealing_checks c.args.s c.args.d c.args.ys.now c.args.f.now c.args.ws.now (length c.args.out.now) in
+    let cs = checks in
     (last-refused cs c.write_refusal-k.ensures c.if-k-ne0.true tt, last-kept cs c.write_refusal-k.ensures c.if-k-ne0.true _ _)
 
 pub put_dealing-requires : goal.put_dealing-requires
 put_dealing-requires c =
-    let w = writable _ _ _ _ _ _ (met c.before) in
+    let checks : List Check =
+        write_dealing_checks c.args.s c.args.d c.args.ys.now c.args.f.now c.args.ws.now (length c.args.out.now) in
+    let met : Met checks =
+        write-none _ _ _ _ _ _ c.write_refusal-k.ensures c.if-k-ne0.false in
+    let w = writable _ _ _ _ _ _ met in
     (c.requires, w.0.dealer.1, w.0.keys-size, w.0.nonces-size, w.0.nonces, w.1)
 
 pub returns : goal.returns
 unfolding write_dealing_in lent_dealing_in
 returns c =
-    let cs = checks c.before.before.before.before.before.before.before.before.before.before in
-    (sym ((value-exactly Unit cs tt).1 (met c.before.before.before.before)), c.put_dealing.ensures ∙ sym (if-met _ _ cs (met c.before.before.before.before)))
+    let checks : List Check =
+        write_dealing_checks c.args.s c.args.d c.args.ys.now c.args.f.now c.args.ws.now (length c.args.out.now) in
+    let met : Met checks =
+        write-none _ _ _ _ _ _ c.write_refusal-k.ensures c.if-k-ne0.false in
+    let cs = checks in
+    (sym ((value-exactly Unit cs tt).1 met), c.put_dealing.ensures ∙ sym (if-met _ _ cs met))

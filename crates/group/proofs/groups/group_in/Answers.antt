@@ -11,7 +11,6 @@ use Rattle.group.specs.Table.{groups_of, looked_up}
 use Rattle.group.specs.declared.Group.{Group}
 use Rattle.group.proofs.Turns.{no_bytes, number-zero, number-high, number_at}
 use Rattle.group.proofs.groups.group_in.Goals as goal
-use Rattle.group.proofs.groups.group_in.Lts as lts
 
 pub returns-then-table-eq0 : goal.returns-then-table-eq0
 returns-then-table-eq0 c =
@@ -26,15 +25,16 @@ returns-then-number-lt1 c =
     (λ x. simp (number-high a.table.now a.number c.if-table-eq0.false x.0.left (ltb-true (records_in a.table.now) a.number x.1.taken)))
     c.if-number-lt1.branch-raw
 
--- past the test there is a record of that number
-there : (c : lts.Else-number-table) → let a = c.args in a.number ≤ records_in a.table.now
-there c = let a = c.args in ltb-false (records_in a.table.now) a.number c.if-number-table.false-raw
-
 pub group_at-requires : goal.group_at-requires
-group_at-requires c = omega (arith, there c)
+group_at-requires c =
+    let there : let a = c.args in a.number ≤ records_in a.table.now =
+        let a = c.args in ltb-false (records_in a.table.now) a.number c.if-number-table.false-raw in
+    omega (arith, there)
 
 pub returns : goal.returns
 returns c =
+    let there : let a = c.args in a.number ≤ records_in a.table.now =
+        let a = c.args in ltb-false (records_in a.table.now) a.number c.if-number-table.false-raw in
     let a = c.args in
-    let s = number_at a.table.now a.number c.if-table-eq0.false c.if-number-lt1.false (there c.before) in
+    let s = number_at a.table.now a.number c.if-table-eq0.false c.if-number-lt1.false there in
     ap value c.group_at.ensures ∙ sym (simp (s.0, s.1))

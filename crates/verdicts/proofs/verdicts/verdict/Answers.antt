@@ -5,7 +5,6 @@ use Rattle.board.proofs.Order.{reached, sorted}
 use Rattle.verdicts.proofs.VerdictAnswers.{no_lines, not-all-lines, lines-formed, all_lines, judge-refuses, dealing-accepted}
 use Rattle.lines.specs.Columns.{columns_of}
 use Rattle.verdicts.proofs.verdicts.verdict.Goals as goal
-use Rattle.verdicts.proofs.verdicts.verdict.Lts as lts
 
 pub lines_of-lines-requires : goal.lines_of-lines-requires
 lines_of-lines-requires c = sorted c.args.s c.args.b.now (reached c.args.s c.args.b.now c.requires.1).form
@@ -18,15 +17,11 @@ pub returns-then-count-s : goal.returns-then-count-s
 returns-then-count-s c =
     not-all-lines c.args.s c.args.b.now c.args.d c.requires.0 c.requires.1 c.lines_of-lines.ensures.result_value c.record_count-count.ensures c.if-count-eq0.false c.if-count-s.true
 
--- with n lines all but their figures is settled
-formed : (c : lts.Else-count-s)
-    → let a = c.args in FormedDealing a.s a.d a.ys.now c.lines_of-lines.result.now
-formed c =
-    lines-formed c.args.s c.args.b.now c.args.d c.requires.0 c.requires.1 c.lines_of-lines.ensures.result_value c.record_count-count.ensures c.if-count-eq0.false c.if-count-s.false c.requires.2
-
 pub judge_lines-judged-requires : goal.judge_lines-judged-requires
 judge_lines-judged-requires c =
-    let F = formed c in
+    let formed : let a = c.args in FormedDealing a.s a.d a.ys.now c.lines_of-lines.result.now =
+        lines-formed c.args.s c.args.b.now c.args.d c.requires.0 c.requires.1 c.lines_of-lines.ensures.result_value c.record_count-count.ensures c.if-count-eq0.false c.if-count-s.false c.requires.2 in
+    let F = formed in
     (c.requires.0, F.dealer.1, F.keys-size, F.size)
 
 pub secret-requires : goal.secret-requires

@@ -11,12 +11,12 @@ returns c =
     let v = c.rounds-v.ensures ∙ (λ j. rounds (c.schedule-w.ensures j) s 64) in
     λ j.
     record {
-      a = (c.wrapping_add_u32.ensures ∙ (λ k. (v k).a ⊞ s.a)) j;
-      b = (c.wrapping_add_u32-2.ensures ∙ (λ k. (v k).b ⊞ s.b)) j;
-      c = (c.wrapping_add_u32-3.ensures ∙ (λ k. (v k).c ⊞ s.c)) j;
-      d = (c.wrapping_add_u32-4.ensures ∙ (λ k. (v k).d ⊞ s.d)) j;
-      e = (c.wrapping_add_u32-5.ensures ∙ (λ k. (v k).e ⊞ s.e)) j;
-      f = (c.wrapping_add_u32-6.ensures ∙ (λ k. (v k).f ⊞ s.f)) j;
-      g = (c.wrapping_add_u32-7.ensures ∙ (λ k. (v k).g ⊞ s.g)) j;
-      h = (c.wrapping_add_u32-8.ensures ∙ (λ k. (v k).h ⊞ s.h)) j;
+      a = (c.wrapping_add_u32.ensures.value ∙ (λ k. (v k).a ⊞ s.a)) j;
+      b = (c.wrapping_add_u32-2.ensures.value ∙ (λ k. (v k).b ⊞ s.b)) j;
+      c = (c.wrapping_add_u32-3.ensures.value ∙ (λ k. (v k).c ⊞ s.c)) j;
+      d = (c.wrapping_add_u32-4.ensures.value ∙ (λ k. (v k).d ⊞ s.d)) j;
+      e = (c.wrapping_add_u32-5.ensures.value ∙ (λ k. (v k).e ⊞ s.e)) j;
+      f = (c.wrapping_add_u32-6.ensures.value ∙ (λ k. (v k).f ⊞ s.f)) j;
+      g = (c.wrapping_add_u32-7.ensures.value ∙ (λ k. (v k).g ⊞ s.g)) j;
+      h = (c.wrapping_add_u32-8.ensures.value ∙ (λ k. (v k).h ⊞ s.h)) j;
     }

@@ -23,9 +23,9 @@ unfolding round
 returns c =
     let a = c.args in
     let s = a.self in
-    let fourth = first-sum s a.k a.w c.big_sigma1.ensures c.wrapping_add_u32-x.ensures c.ch.ensures in
-    let one = fourth c.wrapping_add_u32-y.ensures c.wrapping_add_u32.ensures c.wrapping_add_u32-t1.ensures in
-    let two = second_is s c.big_sigma0.ensures c.maj.ensures c.wrapping_add_u32-t2.ensures in
-    let new-a = c.wrapping_add_u32-3.ensures ∙ (λ j. one j ⊞ two j) in
-    let new-e = c.wrapping_add_u32-2.ensures ∙ (λ j. s.d ⊞ one j) in
+    let fourth = first-sum s a.k a.w c.big_sigma1.ensures c.wrapping_add_u32-x.ensures.value c.ch.ensures in
+    let one = fourth c.wrapping_add_u32-y.ensures.value c.wrapping_add_u32.ensures.value c.wrapping_add_u32-t1.ensures.value in
+    let two = second_is s c.big_sigma0.ensures c.maj.ensures c.wrapping_add_u32-t2.ensures.value in
+    let new-a = c.wrapping_add_u32-3.ensures.value ∙ (λ j. one j ⊞ two j) in
+    let new-e = c.wrapping_add_u32-2.ensures.value ∙ (λ j. s.d ⊞ one j) in
     λ j. record { a = new-a j; b = s.a; c = s.b; d = s.c; e = new-e j; f = s.e; g = s.f; h = s.g }
