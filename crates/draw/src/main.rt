@@ -2,17 +2,17 @@
 #![tactic(auto)]
 
 use files::read_or_empty;
-use libc::STDOUT_FILENO;
+use std::io::{self, Write};
 
 // Each space has one byte more than the longest file that is not refused for its length.
-fn main() {
+fn main(rt: HostRuntime) -> io::Result<()> {
     let mut table = [0u8; 257];
     let mut set = [0u8; 33];
     let mut board = [0u8; 65537];
     let mut out = [0u8; 1024];
-    let a = read_or_empty(b"groups.tab", &mut table);
-    let b = read_or_empty(b"round.set", &mut set);
-    let c = read_or_empty(b"board.bin", &mut board);
+    let a = read_or_empty(&rt, b"groups.tab", &mut table);
+    let b = read_or_empty(&rt, b"round.set", &mut set);
+    let c = read_or_empty(&rt, b"board.bin", &mut board);
     let n = text::draw_text(&table[..a], &set[..b], &board[..c], &mut out);
-    io::write_all(STDOUT_FILENO, &out[0..n]);
+    io::writer(&rt).write_all(&out[0..n])
 }

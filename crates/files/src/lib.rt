@@ -1,15 +1,17 @@
 // The files and arguments that programs read, and a line on standard error.
 //
-// What is assumed, and nothing proves, is what the kit says of the system's calls: each returns and touches nothing but what it is lent,
-// and a read answers -1 or a count of at most the bytes that it was lent. The calls are opening, reading, looking at the arguments, writing,
-// and setting the C library's error number for what cannot be a path. No contract says what bytes a file or an argument holds. The last
-// lines of a program's check name the calls that it makes, and count them.
+// What is assumed, and nothing proves, is what the kit says of the system's calls, which std makes: each returns and touches nothing but
+// what it is lent, and a read answers an error or a count of at most the bytes that it was lent. No contract says what bytes a file or an
+// argument holds. The last lines of a program's check name the calls that it makes, and count them.
 #![tactic(auto)]
 
 ghost use Rattle.io.specs.Counts.{IsPrefixLen};
 ghost use Rattle.files.specs.Answer.{Answered};
 
-use libc::STDERR_FILENO;
+use std::env::{Env, FillError};
+use std::fs::{self, Files};
+use std::io::{Read, Write};
+use std::str::from_utf8;
 
 // What was read of a file or an argument: so many bytes, at the start of the space that was lent; or nothing, since it is missing.
 #[derive(Clone, Copy)]
@@ -19,15 +21,17 @@ pub enum FileAnswer {
 }
 
 // One read to the start of `space`. Answers how many bytes it gave; one that fails gives none.
-fn read_some(file: i32, space: &mut [u8]) -> usize
+fn read_some<F: Read>(file: &mut F, space: &mut [u8]) -> usize
     ensures { IsPrefixLen result space.new }
 {
-    let got = libc::read(file, space);
-    io::count(got, space)
+    match file.read(space) {
+        Ok(got) => got,
+        Err(_) => 0,
+    }
 }
 
 // Reads to the start of `space` until the file ends, a read fails or the space is full, and answers how many bytes that is.
-fn fill(file: i32, space: &mut [u8]) -> usize
+fn fill<F: Read>(file: &mut F, space: &mut [u8]) -> usize
     ensures { IsPrefixLen result space.new }
 {
     let mut done = 0;
@@ -41,42 +45,48 @@ fn fill(file: i32, space: &mut [u8]) -> usize
     done
 }
 
-// Reads a file from its start, as far as `space` goes. One that cannot be opened is missing, and `space` is kept. The file stays open
-// until the program ends, which is soon.
-pub fn read_file(path: &[u8], space: &mut [u8]) -> FileAnswer
+// Reads a file from its start, as far as `space` goes. One that cannot be opened is missing, and `space` is kept.
+pub fn read_file<R: Files>(rt: &R, path: &[u8], space: &mut [u8]) -> FileAnswer
     ensures { Answered result space.old space.new }
 {
-    let file = os::open_read(path);
-    if file < 0 {
+    let Ok(path) = from_utf8(path) else {
         return FileAnswer::Missing;
-    }
-    FileAnswer::Bytes(fill(file, space))
+    };
+    let Ok(mut file) = fs::open(rt, path) else {
+        return FileAnswer::Missing;
+    };
+    FileAnswer::Bytes(fill(&mut file, space))
 }
 
 // Reads a file likewise, where a missing one counts as empty, and answers how many bytes that is.
-pub fn read_or_empty(path: &[u8], space: &mut [u8]) -> usize
+pub fn read_or_empty<R: Files>(rt: &R, path: &[u8], space: &mut [u8]) -> usize
     ensures { IsPrefixLen result space.new }
 {
-    match read_file(path, space) {
+    match read_file(rt, path, space) {
         FileAnswer::Bytes(n) => n,
         FileAnswer::Missing => 0,
     }
 }
 
 // The bytes of an argument of the program, where argument 0 is its own name. One that is longer than `space` counts as empty.
-pub fn argument(k: usize, space: &mut [u8]) -> FileAnswer
+pub fn argument<R: Env>(rt: &R, k: usize, space: &mut [u8]) -> FileAnswer
     ensures { Answered result space.old space.new }
 {
-    if k >= os::arg_count() {
+    // Asked with no space: whether there is such an argument.
+    if let Err(FillError::NotPresent) = rt.arg(k, &mut []) {
         return FileAnswer::Missing;
     }
-    FileAnswer::Bytes(os::arg(k, space))
+    match rt.arg(k, space) {
+        Ok(n) => FileAnswer::Bytes(n),
+        Err(_) => FileAnswer::Bytes(0),
+    }
 }
 
-// Writes a line to standard error: what it is about, and what is wrong with it.
-pub fn complain(name: &[u8], wrong: &[u8]) {
-    io::write_all(STDERR_FILENO, name);
-    io::write_all(STDERR_FILENO, b": ");
-    io::write_all(STDERR_FILENO, wrong);
-    io::write_all(STDERR_FILENO, b"\n");
+// Writes a line to standard error: what it is about, and what is wrong with it. What cannot be written there is let go.
+pub fn complain(rt: &HostRuntime, name: &[u8], wrong: &[u8]) {
+    let mut to = rt.stderr();
+    let _ = to.write_all(name);
+    let _ = to.write_all(b": ");
+    let _ = to.write_all(wrong);
+    let _ = to.write_all(b"\n");
 }
