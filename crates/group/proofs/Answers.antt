@@ -1,0 +1,69 @@
+-- What the answer of a look-up tells: a value, that there is a group of that number; a refusal, that there is none.
+-- Then what an operation by a table and a number does: what it does in the group, where there is one.
+use mathlib.Core.Path.{◌≡◌, sym, ap, ◌∙◌, subst}
+use mathlib.Core.Bool.{true, false}
+use mathlib.Core.List.{List, [], ◌∷◌, ◌++◌}
+use mathlib.Core.Logic.{◌↔◌, ⊎_elim}
+use Prim.Native.Nat.{ℕ}
+use Rattle.words.specs.Checks.{Check, ◌unless◌, value, refused, outcome, Met, if_met}
+use Rattle.words.proofs.Checks.{value-met, refused-exactly}
+use Rattle.words.proofs.Stages.{met-both, rest-outcome, given-refused, given-value, given-kept, given-choice}
+use Rattle.group.specs.Table.{groups_of, table_checks, is_group, group_of, group_outcome_of, looked_up, group_checks, group_outcome, in_group, in_group_else}
+use Rattle.group.specs.declared.Group.{Group}
+use Rattle.group.specs.declared.GroupAnswer.{GroupAnswer}
+use Rattle.group.specs.declared.GroupAnswer.TheVariants.{Value, Refused}
+use Rattle.group.proofs.Table.{Sound, group-sound}
+
+-- ---- the group of a number among groups
+module _ (Gs : List Group) (k : ℕ) {r : GroupAnswer} (e : group_outcome_of r ≡ looked_up Gs k) where
+  pub group-value : {G : Group} → r ≡ Value G → (is_group Gs k ≡ true) × (group_of Gs k ≡ G)
+  group-value {G} f = let s = value-met (1 unless is_group Gs k ∷ []) (group_of Gs k) G (sym e ∙ ap group_outcome_of f) in (s.0.0, s.1)
+
+  pub group-refused : {n : ℕ} → r ≡ Refused n → is_group Gs k ≡ false
+  group-refused {n} f =
+      ⊎_elim (λ u. u.0) (λ u. absurd u.1)
+      ((refused-exactly Group (1 unless is_group Gs k ∷ []) (group_of Gs k) n).0 (sym e ∙ ap group_outcome_of f))
+
+-- ---- the group of a table's number
+pub met-sound : (T : List ℕ) (k : ℕ) → Met (group_checks T k) → Sound (group_of (groups_of T) k)
+unfolding group_checks
+met-sound T k m = let s = met-both (table_checks T) (1 unless is_group (groups_of T) k ∷ []) m in group-sound T s.0 k s.1.0
+
+pub found-sound : (T : List ℕ) (k : ℕ) {r : GroupAnswer} → group_outcome_of r ≡ group_outcome T k → {G : Group} → r ≡ Value G → Sound G
+found-sound T k e {G} f =
+    let s = value-met (group_checks T k) (group_of (groups_of T) k) G (sym e ∙ ap group_outcome_of f) in
+    subst Sound s.1 (met-sound T k s.0)
+
+-- ---- an operation by a table and a number
+module _ {A : Type 0} (T : List ℕ) (k : ℕ) (checks : Group → List Check) (answer : Group → A) where
+  abbrev found : Group
+  found = group_of (groups_of T) k
+
+  -- a value by the number is one in its group, which there is in an accepted table
+  pub in-group-exactly : (a : A)
+      → (in_group T k checks answer ≡ value a) ↔ (Met (group_checks T k) × (outcome (checks found) (answer found) ≡ value a))
+  unfolding in_group
+  in-group-exactly a =
+      let rest : Met (group_checks T k) → outcome (checks found) (answer found) ≡ in_group T k checks answer =
+      λ g. rest-outcome (group_checks T k) (checks found) g (answer found) in (
+        (λ e. let g = (met-both (group_checks T k) (checks found) (value-met (group_checks T k ++ checks found) (answer found) a e).0).0 in (g, rest g ∙ e)),
+        λ w. sym (rest w.0) ∙ w.1,
+      )
+
+  -- by the answer r of the function that gives the group
+  module _ {r : GroupAnswer} (e : group_outcome_of r ≡ group_outcome T k) where
+    pub in-group-refused : {n : ℕ} → r ≡ Refused n → refused n ≡ in_group T k checks answer
+    unfolding in_group
+    in-group-refused f = given-refused (group_checks T k) found checks answer (sym e ∙ ap group_outcome_of f)
+
+    pub in-group-value : {G : Group} → r ≡ Value G → outcome (checks G) (answer G) ≡ in_group T k checks answer
+    unfolding in_group
+    in-group-value f = given-value (group_checks T k) found checks answer (sym e ∙ ap group_outcome_of f)
+
+    pub in-group-kept : {n : ℕ} → r ≡ Refused n → (old : A) → old ≡ in_group_else T k checks answer old
+    unfolding in_group_else
+    in-group-kept f old = given-kept (group_checks T k) found checks answer (sym e ∙ ap group_outcome_of f) old
+
+    pub in-group-lent : {G : Group} → r ≡ Value G → (old : A) → if_met (checks G) (answer G) old ≡ in_group_else T k checks answer old
+    unfolding in_group_else
+    in-group-lent f old = given-choice (group_checks T k) found checks answer (sym e ∙ ap group_outcome_of f) old
