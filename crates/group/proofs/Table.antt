@@ -1,29 +1,29 @@
 -- Tables of groups: which bytes are accepted, that the groups of an accepted table are proper, and what of it enters an operation.
 -- Trial division shows the built-in p and q prime, and the power from halves that 4 and 9 have the order q: both are computed.
-use mathlib.Core.Path.{◌≡◌, refl, sym, ap, ◌∙◌, subst}
+use mathlib.Core.Path.{◌≡◌, refl, sym, ap, ◌∙◌}
 use mathlib.Core.Bool.{Bool, true, not, ◌&&◌}
 use mathlib.Core.List.{List, [], ◌∷◌, ◌++◌}
-use Prim.Native.Nat.{ℕ, zero, suc, ◌+◌, ◌-◌, ◌*◌, ◌/◌, ◌%◌, ◌^◌, ◌≤◌, ◌<◌}
+use Prim.Native.Nat.{ℕ, suc, ◌-◌, ◌*◌, ◌%◌, ◌^◌, ◌≤◌, ◌<◌}
 use native.Mathlib.Nat.{mod-eq_of_lt}
 use native.Mathlib.Decide.{dec_le}
 use native.Mathlib.Omega.{arith}
 use lib.Dec.{T, leb, ltb, eqb, lit<}
 use lib.ListN.{length, take, drop}
 use borrow.Author.Tests.{leb-true, le-leb, ltb-true, lt-ltb, eqb-true, eq-eqb, eqb-false, ne_eqb, not-true}
-use Rattle.words.specs.Lists.{All, Below, map, up_from}
-use Rattle.words.specs.Checks.{Check, ◌unless◌, Outcome, outcome, Met, if_met}
+use Rattle.words.specs.Lists.{All, Below, up_from}
+use Rattle.words.specs.Checks.{Check, ◌unless◌, outcome, Met, if_met}
 use Rattle.words.specs.Bytes.{word_at, word_bytes, words_bytes, record_bytes, record_in, records_in, record_at, agrees}
 use Rattle.words.proofs.Lists.{All-to, All-at, All-take, All-drop, map-length, map-all, map_each, up-length, up-each, each-up}
 use Rattle.words.proofs.Tests.{and-true, true-and, all_true, true-all}
 use Rattle.words.proofs.Stages.{behind-outcome, behind-choice}
 use Rattle.words.proofs.Bytes.{word_low}
 use Rattle.words.proofs.Records.{agrees-exactly}
-use Rattle.field.specs.Prime.{Prime, is_prime, trial_division}
+use Rattle.field.specs.Prime.{is_prime, trial_division}
 use Rattle.field.proofs.Primality.{trial-division, prime-exactly}
-use Rattle.group.specs.Power.{pow, halves_power}
+use Rattle.group.specs.Power.{halves_power}
 use Rattle.group.specs.Element.{is_element, is_generator, Generator, Proper}
-use Rattle.group.specs.Table.{group, built_in, is_group_record, group_at, groups_from, groups_of, has_primes, has_generators, groups_checks, are_groups, table_checks, is_group, group_of, group_checks, in_group, in_group_else}
-use Rattle.group.specs.Claims.{Chosen, IsOwnGroup, IsOwnRecord, IsTable, TableExactly, TableProper, SameGroups, built_in_table, BuiltInTable}
+use Rattle.group.specs.Table.{group, built_in, is_group_record, group_at, groups_from, groups_of, has_primes, has_generators, groups_checks, table_checks, is_group, group_of, group_checks, in_group, in_group_else}
+use Rattle.group.specs.Claims.{Chosen, IsOwnGroup, IsTable, TableExactly, TableProper, SameGroups, BuiltInTable}
 use Rattle.group.specs.declared.Group.{Group}
 use Rattle.group.proofs.Powers.{halves-power}
 use Rattle.group.proofs.Elements.{element-true, true-element}

@@ -1,6 +1,6 @@
 -- `digest` refuses a message that is too long, and else absorbs its blocks.
 -- Invariant: the state is the hash value after the first i blocks.
-use Rattle.std.proofs.Common.{◌≡◌, ◌-◌, ap, ◌∙◌, add-one, arith, le-leb}
+use Rattle.std.proofs.Common.{◌≡◌, ap, ◌∙◌, add-one, arith, le-leb}
 use borrow.Author.Tests.{lt-leb}
 use Rattle.words.specs.Checks.{value}
 use Rattle.sha256.specs.Padding.{pad, blocks}

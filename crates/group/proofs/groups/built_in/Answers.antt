@@ -29,4 +29,4 @@ no-group k a b c =
     ]
 
 pub returns-in_default : goal.returns-in_default
-returns-in_default c = rw (no-group _ c.in-1.rest.0.0.1 c.in-1.rest.0.1 c.in-1.rest.1)
+returns-in_default c = rw (no-group c.args.number (λ e. omega arith) (λ e. omega arith) (λ e. omega arith))

@@ -1,6 +1,5 @@
 -- `all_exponents` meets its contract. The loop's invariant: the numbers from i on pass exactly if all do.
 use mathlib.Core.Path.{◌≡◌, refl, sym, ◌∙◌}
-use Prim.Native.Nat.{◌-◌}
 use native.Mathlib.Omega.{arith}
 use borrow.Author.Tests.{not-true, not-false}
 use lib.ListN.{length}

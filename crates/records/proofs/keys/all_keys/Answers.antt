@@ -1,6 +1,5 @@
 -- `all_keys` meets its contract. The loop's invariant: the keys from i on pass exactly if all do.
 use mathlib.Core.Path.{◌≡◌, refl, sym, ◌∙◌}
-use Prim.Native.Nat.{◌-◌}
 use native.Mathlib.Omega.{arith}
 use borrow.Author.Tests.{not-true, not-false}
 use lib.ListN.{length}

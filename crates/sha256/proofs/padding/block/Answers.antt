@@ -1,5 +1,5 @@
 -- `block` gives the words of a block. Invariant: its first j words are those of the definition.
-use Rattle.std.proofs.Common.{◌-◌, refl, arith, rules}
+use Rattle.std.proofs.Common.{refl, arith, rules}
 use Rattle.sha256.proofs.Padded.{pad-blocks}
 use Rattle.sha256.proofs.Blocks.{block-next, block-end}
 use Rattle.sha256.proofs.padding.block.Goals as goal

@@ -1,6 +1,6 @@
 -- `first_words` holds the first sixteen words of the schedule.
 -- Invariant: the array holds the first t words of the schedule, and 0 behind them.
-use Rattle.std.proofs.Common.{◌≡◌, ◌-◌, refl, arith, rules}
+use Rattle.std.proofs.Common.{◌≡◌, refl, arith, rules}
 use Rattle.words.proofs.Lists.{filled_none}
 use Rattle.sha256.specs.Hash.{schedule}
 use Rattle.sha256.proofs.ScheduleWords.{first_next}

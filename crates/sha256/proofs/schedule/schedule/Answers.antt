@@ -1,5 +1,5 @@
 -- `schedule` fills the array. Invariant: it holds the first t words of the definition, and 0 behind them.
-use Rattle.std.proofs.Common.{◌≡◌, ◌-◌, arith, rules}
+use Rattle.std.proofs.Common.{◌≡◌, arith, rules}
 use Rattle.sha256.proofs.ScheduleWords.{words-all, later-next}
 use Rattle.sha256.proofs.schedule.schedule.Goals as goal
 

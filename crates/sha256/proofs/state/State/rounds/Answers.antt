@@ -1,5 +1,6 @@
 -- `State::rounds` is the 64 rounds. Invariant: the working variables are those after t rounds, and t is even.
-use Rattle.std.proofs.Common.{◌≡◌, suc, ◌+◌, ◌-◌, get_or, refl, ap, ◌∙◌, arith}
+use Rattle.std.proofs.Common.{◌≡◌, suc, ◌+◌, get_or, refl, ap, ◌∙◌, arith}
+use Rattle.sha256.specs.Constants.{K}
 use Rattle.sha256.specs.Hash.{round, rounds}
 use Rattle.sha256.proofs.state.State.rounds.Goals as goal
 
@@ -8,7 +9,7 @@ unfolding rounds
 loop-t-init c = (omega arith, refl, refl)
 
 pub loop-t-preserved : goal.loop-t-preserved
-unfolding rounds
+unfolding rounds K
 loop-t-preserved c =
     let a = c.args in
     let t = c.loop-t.t in
