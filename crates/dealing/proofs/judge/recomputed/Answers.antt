@@ -1,7 +1,7 @@
 -- `recomputed` meets its contract. The loop's invariant: two arrays hold the announcements of the first i members, and 0 behind.
 use mathlib.Core.List.{List}
 use mathlib.Core.Path.{◌≡◌, refl, ◌∙◌}
-use Prim.Native.Nat.{ℕ, ◌-◌, ◌<◌}
+use Prim.Native.Nat.{ℕ, ◌<◌}
 use native.Mathlib.Omega.{arith}
 use Rattle.words.proofs.Lists.{filled_none, entry_at}
 use Rattle.sharing.proofs.EachMember.{members-next, filled-agree}
