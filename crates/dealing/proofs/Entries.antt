@@ -4,7 +4,7 @@ use mathlib.Core.Bool.{◌&&◌}
 use mathlib.Core.List.{List, [], ◌∷◌}
 use Prim.Native.Nat.{ℕ, ◌-◌}
 use lib.Dec.{eqb}
-use Rattle.words.specs.Lists.{map, up_from, entry}
+use Rattle.words.specs.Lists.{up_from, entry}
 use Rattle.words.specs.Checks.{◌unless◌}
 use Rattle.words.proofs.Lists.{All-each, map_same}
 use Rattle.group.specs.Element.{is_element, is_exponent}

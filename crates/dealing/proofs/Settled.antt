@@ -6,13 +6,12 @@ use Prim.Native.Nat.{ℕ, ◌*◌, ◌≤◌}
 use borrow.Author.Tests.{eqb-true}
 use lib.Dec.{eqb}
 use lib.ListN.{length}
-use Rattle.words.specs.Lists.{All, Below, all}
+use Rattle.words.specs.Lists.{Below, all}
 use Rattle.words.specs.Checks.{refusal, Met}
 use Rattle.words.proofs.Lists.{All-to}
-use Rattle.words.proofs.Tests.{and-true, true-equal, equal-true, all_true, true-all}
+use Rattle.words.proofs.Tests.{and-true, true-equal, equal-true, all_true}
 use Rattle.words.proofs.Stages.{both-met, met-both, stage-met}
 use Rattle.group.specs.Element.{is_exponent}
-use Rattle.group.specs.declared.Group.{Group}
 use Rattle.group.proofs.Elements.{exponent-true}
 use Rattle.sharing.specs.Carried.{Polynomial}
 use Rattle.sharing.specs.declared.Setting.{Setting}

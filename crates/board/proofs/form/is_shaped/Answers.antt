@@ -2,6 +2,7 @@
 use mathlib.Core.Path.{◌≡◌, refl, ◌∙◌}
 use mathlib.Core.Bool.{Bool, true, false, ◌&&◌}
 use Prim.Native.Nat.{ℕ}
+use native.Mathlib.Omega.{arith}
 use borrow.Author.Tests.{ne_eqb}
 use lib.Dec.{eqb}
 use Rattle.words.specs.Choice.{pick}
@@ -60,5 +61,5 @@ returns-in-5 c = of-added _ _ c.is_member-dealer.ensures c.is_member-member.ensu
 pub returns-in_default : goal.returns-in_default
 unfolding is_shaped agrees
 returns-in_default c =
-    let k = c.in-1.rest in
-    simp (ne_eqb _ 1 k.0.0.0.0.1, ne_eqb _ 2 k.0.0.0.1, ne_eqb _ 3 k.0.0.1, ne_eqb _ 4 k.0.1, ne_eqb _ 5 k.1)
+    let k = c.args.r.w0 in
+    simp (ne_eqb k 1 (λ e. omega arith), ne_eqb k 2 (λ e. omega arith), ne_eqb k 3 (λ e. omega arith), ne_eqb k 4 (λ e. omega arith), ne_eqb k 5 (λ e. omega arith))

@@ -26,24 +26,24 @@ returns-then-not-found c = sym (pick-false _ _ 12 (failed (found_all _ _ c.found
 pub slice_bounds-ys-end : goal.slice_bounds-ys-end
 slice_bounds-ys-end c =
     let complete : let a = c.args in all (has_key a.b.now) (members a.s.n) ≡ true =
-        passed (found_all _ _ c.found_keys-found.ensures) c.if-not-found.false in
+    passed (found_all _ _ c.found_keys-found.ensures) c.if-not-found.false in
     let front : let a = c.args in take a.s.n c.found_keys-found.result.ys ≡ keys_in a.s.n a.b.now =
-        let a = c.args in
+    let a = c.args in
     members-front (key_in a.b.now) a.s.n (found-filled a.s.n a.b.now c.found_keys-found.ensures complete) in
     let front-size : let n = c.args.s.n in n ≡ length (take n c.found_keys-found.result.ys) =
-        let a = c.args in
+    let a = c.args in
     sym (ap length front ∙ map-length (key_in a.b.now) (members a.s.n) ∙ up-length 1 a.s.n) in
     omega (arith, length-take c.args.s.n c.found_keys-found.result.ys, front-size)
 
 pub slice_bounds-keys_refusal-end : goal.slice_bounds-keys_refusal-end
 slice_bounds-keys_refusal-end c =
     let complete : let a = c.args in all (has_key a.b.now) (members a.s.n) ≡ true =
-        passed (found_all _ _ c.found_keys-found.ensures) c.if-not-found.false in
+    passed (found_all _ _ c.found_keys-found.ensures) c.if-not-found.false in
     let front : let a = c.args in take a.s.n c.found_keys-found.result.ys ≡ keys_in a.s.n a.b.now =
-        let a = c.args in
+    let a = c.args in
     members-front (key_in a.b.now) a.s.n (found-filled a.s.n a.b.now c.found_keys-found.ensures complete) in
     let front-size : let n = c.args.s.n in n ≡ length (take n c.found_keys-found.result.ys) =
-        let a = c.args in
+    let a = c.args in
     sym (ap length front ∙ map-length (key_in a.b.now) (members a.s.n) ∙ up-length 1 a.s.n) in
     front-size
 
@@ -51,9 +51,9 @@ pub returns : goal.returns
 unfolding board_key_checks
 returns c =
     let complete : let a = c.args in all (has_key a.b.now) (members a.s.n) ≡ true =
-        passed (found_all _ _ c.found_keys-found.ensures) c.if-not-found.false in
+    passed (found_all _ _ c.found_keys-found.ensures) c.if-not-found.false in
     let front : let a = c.args in take a.s.n c.found_keys-found.result.ys ≡ keys_in a.s.n a.b.now =
-        let a = c.args in
+    let a = c.args in
     members-front (key_in a.b.now) a.s.n (found-filled a.s.n a.b.now c.found_keys-found.ensures complete) in
     let s = c.args.s in
     c.keys_refusal.ensures

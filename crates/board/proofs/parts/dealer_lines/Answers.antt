@@ -36,7 +36,10 @@ returns-in-Refused c =
     let b = a.b.now in
     let cs = all_checks a.table.now a.rd a.d b in
     let u = (refused-exactly (Unit {0}) cs tt _).0 (sym c.lines_check.ensures ∙ ap check_outcome_of c.in-Refused.is) in
-    (sym (if-unmet (lines_of b a.d) [] cs _ u), ap (λ (k : ℕ). behind k a.b.ptr) (sym (if-unmet (32 * lines_start b a.d) 0 cs _ u)))
+    record {
+      result_value = sym (if-unmet (lines_of b a.d) [] cs _ u);
+      ref_ptr_value = ap (λ (k : ℕ). behind k a.b.ref_ptr) (sym (if-unmet (32 * lines_start b a.d) 0 cs _ u));
+    }
 
 pub returns-in-Passed : goal.returns-in-Passed
 unfolding lines_part lines_at judged_else
@@ -46,4 +49,7 @@ returns-in-Passed c =
     let cs = all_checks a.table.now a.rd a.d b in
     let m = passed a.table.now a.rd a.d b c.lines_check.ensures c.in-Passed.is in
     let f = c.lines_of.ensures in
-    (f.0 ∙ sym (if-met (lines_of b a.d) [] cs m), f.1 ∙ ap (λ (k : ℕ). behind k a.b.ptr) (sym (if-met (32 * lines_start b a.d) 0 cs m)))
+    record {
+      result_value = f.result_value ∙ sym (if-met (lines_of b a.d) [] cs m);
+      ref_ptr_value = f.ref_ptr_value ∙ ap (λ (k : ℕ). behind k a.b.ref_ptr) (sym (if-met (32 * lines_start b a.d) 0 cs m));
+    }

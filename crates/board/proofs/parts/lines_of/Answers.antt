@@ -34,4 +34,7 @@ returns c =
     let a = c.args in
     let s = c.place_of-from.ensures in
     let e = c.place_of-to.ensures in
-    (λ j. take (32 * e j - 32 * s j) (drop (32 * s j) a.b.now), λ j. behind (32 * s j) a.b.ref_ptr)
+    record {
+      result_value = λ j. take (32 * e j - 32 * s j) (drop (32 * s j) a.b.now);
+      ref_ptr_value = λ j. behind (32 * s j) a.b.ref_ptr;
+    }

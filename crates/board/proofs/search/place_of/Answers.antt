@@ -1,5 +1,5 @@
 -- `place_of` meets its contract. The loop's invariant: the place lies between `low` and `high`.
-use Prim.Native.Nat.{◌+◌, ◌-◌, ◌/◌}
+use Prim.Native.Nat.{◌+◌, ◌/◌}
 use native.Mathlib.Omega.{arith}
 use Rattle.board.proofs.Places.{place-within, place-above, place-upto}
 use Rattle.board.proofs.search.place_of.Goals as goal

@@ -4,7 +4,6 @@ use mathlib.Core.Bool.{Bool}
 use mathlib.Core.List.{List}
 use Prim.Native.Nat.{ℕ}
 use native.Mathlib.Omega.{arith}
-use borrow.Author.Tests.{not-true, not-false}
 use Rattle.words.specs.Bytes.{record_at}
 use Rattle.words.specs.declared.Record.{Record}
 use Rattle.board.specs.Board.{is_at, place_of}
@@ -25,11 +24,11 @@ returns-then-at-all c =
 pub returns-then-not-is_at : goal.returns-then-not-is_at
 returns-then-not-is_at c =
     let a = c.args in
-    let e = at_place a.b.now a.k a.d a.m c.place_of-at.ensures c.record_at.ensures c.is_at.ensures (not-true _ c.if-not-is_at.true-raw) in
+    let e = at_place a.b.now a.k a.d a.m c.place_of-at.ensures c.record_at.ensures c.is_at.ensures c.if-not-is_at.true in
     c.record_count-all.ensures ∙ no-record c.requires a.k a.d a.m (λ l. e)
 
 pub returns : goal.returns
 returns c =
     let a = c.args in
-    let e = at_place a.b.now a.k a.d a.m c.place_of-at.ensures c.record_at.ensures c.is_at.ensures (not-false _ c.if-not-is_at.false-raw) in
+    let e = at_place a.b.now a.k a.d a.m c.place_of-at.ensures c.record_at.ensures c.is_at.ensures c.if-not-is_at.false in
     c.place_of-at.ensures ∙ only-record c.requires a.k a.d a.m (place_of a.b.now a.k a.d a.m) (omega arith) e

@@ -2,20 +2,16 @@
 use mathlib.Core.Bool.{Bool}
 use mathlib.Core.List.{List}
 use mathlib.Core.Path.{◌≡◌, refl, sym, ap, ◌∙◌}
-use Prim.Native.Nat.{ℕ, ◌+◌, ◌-◌}
+use Prim.Native.Nat.{ℕ, ◌+◌}
 use native.Mathlib.Omega.{arith}
 use borrow.Author.Tests.{eq-eqb, ne_eqb}
 use lib.Dec.{eqb}
 use lib.ListN.{get_or}
-use Rattle.words.specs.Lists.{entry}
 use Rattle.words.proofs.Lists.{entry_at}
 use Rattle.group.specs.declared.Exponent.{Exponent}
 use Rattle.sharing.proofs.EachMember.{tests-stop, tests-next, tests-end}
+use Rattle.dealing.proofs.judge.all_equal.Invariants.{is_of}
 use Rattle.dealing.proofs.judge.all_equal.Goals as goal
-
--- the challenge of member i is c
-abbrev is_of : Exponent → List ℕ → ℕ → Bool
-is_of c cs i = eqb (entry cs i) c.0
 
 tested : (c : Exponent) (cs : List ℕ) (k : ℕ) {t : Bool} → eqb (get_or cs k 0) c.0 ≡ t → is_of c cs (k + 1) ≡ t
 tested c cs k t = sym (ap (λ (x : ℕ). eqb x c.0) (entry_at cs k)) ∙ t

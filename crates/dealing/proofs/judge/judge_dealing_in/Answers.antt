@@ -14,12 +14,12 @@ returns-then-k-ne0 c =
 pub judge_lines-requires : goal.judge_lines-requires
 judge_lines-requires c =
     let formed : let a = c.args in FormedDealing a.s a.d a.ys.now a.lines.now =
-        met-formed _ _ _ _ (form-none _ _ _ _ c.form_refusal-k.ensures c.if-k-ne0.false) in
+    met-formed _ _ _ _ (form-none _ _ _ _ c.form_refusal-k.ensures c.if-k-ne0.false) in
     let F = formed in
     (c.requires, F.dealer.1, F.keys-size, F.size)
 
 pub returns : goal.returns
 returns c =
     let formed : let a = c.args in FormedDealing a.s a.d a.ys.now a.lines.now =
-        met-formed _ _ _ _ (form-none _ _ _ _ c.form_refusal-k.ensures c.if-k-ne0.false) in
+    met-formed _ _ _ _ (form-none _ _ _ _ c.form_refusal-k.ensures c.if-k-ne0.false) in
     c.judge_lines.ensures.answer_value ∙ figures-decide _ _ _ _ formed

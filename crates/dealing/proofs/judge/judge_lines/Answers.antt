@@ -8,4 +8,7 @@ use Rattle.dealing.proofs.judge.judge_lines.Goals as goal
 pub returns : goal.returns
 returns c =
     let e = c.read_lines-figures.ensures in
-    (c.judge_figures-answer.ensures ∙ ap (λ (x : List Check). outcome x tt) (columns-same _ _ _ _ e), e)
+    record {
+      answer_value = c.judge_figures-answer.ensures ∙ ap (λ (x : List Check). outcome x tt) (columns-same _ _ _ _ e);
+      figures_value = e;
+    }

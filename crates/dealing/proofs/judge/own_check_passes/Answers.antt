@@ -23,6 +23,6 @@ degree_passes-requires c = (c.requires.0, length-take-le _ _ (omega arith))
 pub returns : goal.returns
 returns c =
     let a = c.args in
-    let few : a.s.n ≤ length a.t3 = omega (arith, c.requires.0.n-most) in
+    let few : a.s.n ≤ length a.vs = omega (arith, c.requires.0.n-most) in
     let own = filled-front 31 _ _ (check-polynomial a.s c.requires.0 a.d _ _).size c.check_polynomial-ds.ensures in
-    c.degree_passes.ensures ∙ (λ j. eqb (degree_product a.s (entries-front a.t3 a.s.n few j) (own j)) 1)
+    c.degree_passes.ensures ∙ (λ j. eqb (degree_product a.s (entries-front a.vs a.s.n few j) (own j)) 1)

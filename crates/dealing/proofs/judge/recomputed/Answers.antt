@@ -1,24 +1,15 @@
 -- `recomputed` meets its contract. The loop's invariant: two arrays hold the announcements of the first i members, and 0 behind.
 use mathlib.Core.List.{List}
 use mathlib.Core.Path.{◌≡◌, refl, ◌∙◌}
-use Prim.Native.Nat.{ℕ, ◌-◌, ◌<◌}
+use Prim.Native.Nat.{ℕ, ◌<◌}
 use native.Mathlib.Omega.{arith}
-use Rattle.words.specs.Lists.{entry}
 use Rattle.words.proofs.Lists.{filled_none, entry_at}
-use Rattle.group.specs.declared.Group.{Group}
 use Rattle.sharing.proofs.EachMember.{members-next, filled-agree}
 use Rattle.equality.specs.Equality.{announced}
-use Rattle.lines.specs.declared.Columns.{Columns}
 use Rattle.dealing.specs.Dealing.{recomputed}
 use Rattle.dealing.proofs.Entries.{challenge-same}
+use Rattle.dealing.proofs.judge.recomputed.Invariants.{first_of, second_of}
 use Rattle.dealing.proofs.judge.recomputed.Goals as goal
-
--- the announcements of member i
-abbrev first_of : Group → Columns → ℕ → ℕ
-first_of G figures i = announced G G.g.0 (entry figures.vs i) (entry figures.cs i) (entry figures.rs i)
-
-abbrev second_of : Group → List ℕ → Columns → ℕ → ℕ
-second_of G ys figures i = announced G (entry ys i) (entry figures.encrypted i) (entry figures.cs i) (entry figures.rs i)
 
 pub loop-i-init : goal.loop-i-init
 loop-i-init c = (omega arith, omega (arith, c.requires.0.n-most, c.requires.2), filled_none 31, filled_none 31)
@@ -38,9 +29,9 @@ loop-i-preserved c =
     let h : l.i < 31 = omega (arith, l.invariant.1, c.loop-i-test.true) in (
       omega (arith, c.loop-i-test.true),
       l.invariant.1,
-      members-next _ l.i l.invariant.2 h (c.announced.ensures ∙ (λ j. announced G G.g.0 (at a.t4.vs j) (at a.t4.cs j) (at a.t4.rs j))),
+      members-next _ l.i l.invariant.2 h (c.announced.ensures ∙ (λ j. announced G G.g.0 (at a.figures.vs j) (at a.figures.cs j) (at a.figures.rs j))),
       members-next _ l.i l.invariant.3 h
-          (c.announced-in-loop-i.ensures ∙ (λ j. announced G (at a.ys.now j) (at a.t4.encrypted j) (at a.t4.cs j) (at a.t4.rs j))),
+          (c.announced-in-loop-i.ensures ∙ (λ j. announced G (at a.ys.now j) (at a.figures.encrypted j) (at a.figures.cs j) (at a.figures.rs j))),
     )
 
 pub dealing_challenge-requires : goal.dealing_challenge-requires
@@ -54,4 +45,4 @@ returns c =
     let end : l.i ≡ a.s.n = omega (arith, c.loop-i-test.false, c.requires.2) in
     c.dealing_challenge.ensures
     ∙ challenge-same a.s a.d (record { at = λ i h k. refl }) (record { at = λ i h k. refl })
-    (filled-agree (first_of a.s.group a.t4) _ (rw end at l.invariant.2)) (filled-agree (second_of a.s.group a.ys.now a.t4) _ (rw end at l.invariant.3))
+    (filled-agree (first_of a.s.group a.figures) _ (rw end at l.invariant.2)) (filled-agree (second_of a.s.group a.ys.now a.figures) _ (rw end at l.invariant.3))

@@ -1,6 +1,5 @@
 -- `raised` meets its contract. The loop's invariant: the array holds the powers of the first i members, and 0 behind.
 use mathlib.Core.Path.{◌≡◌, ◌∙◌}
-use Prim.Native.Nat.{◌-◌}
 use native.Mathlib.Omega.{arith}
 use Rattle.words.proofs.Lists.{filled_none, entry_at}
 use Rattle.group.specs.Power.{pow}

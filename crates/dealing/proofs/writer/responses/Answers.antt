@@ -1,6 +1,6 @@
 -- `responses` meets its contract. The loop's invariant: the array holds the responses of the first i members, and 0 behind.
 use mathlib.Core.Path.{◌≡◌, ◌∙◌}
-use Prim.Native.Nat.{ℕ, ◌-◌, ◌<◌}
+use Prim.Native.Nat.{ℕ, ◌<◌}
 use native.Mathlib.Omega.{arith}
 use lib.ListN.{length}
 use Rattle.words.proofs.Lists.{All-at, filled_none, entry_at}

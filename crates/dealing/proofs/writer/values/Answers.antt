@@ -1,6 +1,5 @@
 -- `values` meets its contract. The loop's invariant: the array holds the polynomial's values at the first i members, and 0 behind.
 use mathlib.Core.Path.{◌≡◌}
-use Prim.Native.Nat.{◌-◌}
 use native.Mathlib.Omega.{arith}
 use Rattle.words.proofs.Lists.{filled_none}
 use Rattle.sharing.proofs.EachMember.{members-next}
