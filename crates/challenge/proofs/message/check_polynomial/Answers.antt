@@ -10,13 +10,11 @@ use Rattle.sharing.specs.declared.Setting.{Setting}
 use Rattle.challenge.specs.Message.{challenge_of, coefficient_message, check_polynomial}
 use Rattle.challenge.proofs.Buffers.{coefficient-put, coefficient-next}
 use Rattle.challenge.proofs.message.check_polynomial.Goals as goal
-
-abbrev coefficient_of : Setting → ℕ → (ℕ → ℕ) → (ℕ → ℕ) → ℕ → ℕ
-coefficient_of S d v Y k = challenge_of S (coefficient_message S d v Y k)
+use Rattle.challenge.proofs.message.check_polynomial.Invariants.{coefficient_of}
 
 pub loop-k-init : goal.loop-k-init
 loop-k-init c =
-    (omega arith, omega (arith, c.requires.0.n-most), c.coefficient_message-at.auto.0 ∙ refl, coefficient-put _ _ _ _ 0 0 c.coefficient_message-at.ensures.1 _ _ c.coefficient_message-at.ensures.2 refl (omega arith), filled_none 31)
+    (omega arith, omega (arith, c.requires.0.n-most), c.coefficient_message-at.auto.m ∙ refl, coefficient-put _ _ _ _ 0 0 c.coefficient_message-at.ensures.1 _ _ c.coefficient_message-at.ensures.2 refl (omega arith), filled_none 31)
 
 pub challenge-requires : goal.challenge-requires
 challenge-requires c = (c.requires.0, simp length-set (omega (arith, c.requires.0.n-most)), omega (arith, c.requires.0.n-most))
