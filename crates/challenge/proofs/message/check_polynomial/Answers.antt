@@ -1,12 +1,11 @@
 -- `check_polynomial` meets its contract. The loop's invariant: the array holds the first k coefficients, and 0 behind; and the buffer
 -- holds the message of the last of them, at the start that of the coefficient 0.
 use mathlib.Core.Path.{◌≡◌, refl, ap, ◌∙◌}
-use Prim.Native.Nat.{ℕ, ◌+◌, ◌-◌, ◌*◌}
+use Prim.Native.Nat.{◌+◌, ◌-◌, ◌*◌}
 use native.Mathlib.Omega.{arith}
 use lib.ListN.{length-set}
 use Rattle.words.specs.Lists.{entry}
 use Rattle.words.proofs.Lists.{filled_none, run-next}
-use Rattle.sharing.specs.declared.Setting.{Setting}
 use Rattle.challenge.specs.Message.{challenge_of, coefficient_message, check_polynomial}
 use Rattle.challenge.proofs.Buffers.{coefficient-put, coefficient-next}
 use Rattle.challenge.proofs.message.check_polynomial.Goals as goal

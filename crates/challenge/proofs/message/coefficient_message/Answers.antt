@@ -1,11 +1,10 @@
 -- `coefficient_message` meets its contract. The loop's invariant: the words of the first i members stand behind the head and the byte 0.
 use mathlib.Core.Path.{◌≡◌, refl, sym, ap, ◌∙◌}
-use mathlib.Core.List.{List, [], ◌∷◌}
-use Prim.Native.Nat.{ℕ, ◌+◌, ◌-◌}
+use mathlib.Core.List.{[], ◌∷◌}
+use Prim.Native.Nat.{ℕ, ◌+◌}
 use native.Mathlib.Omega.{arith}
 use lib.ListN.{set, length-set}
 use Rattle.words.specs.Bytes.{put_at}
-use Rattle.words.specs.Lists.{entry}
 use Rattle.words.proofs.Bytes.{put-none}
 use Rattle.words.proofs.Lists.{entry_at}
 use Rattle.sharing.specs.Setting.{members}
