@@ -1,22 +1,19 @@
 -- `check_polynomial` meets its contract. The loop's invariant: the array holds the first k coefficients, and 0 behind; and the buffer
 -- holds the message of the last of them, at the start that of the coefficient 0.
 use mathlib.Core.Path.{◌≡◌, refl, ap, ◌∙◌}
-use Prim.Native.Nat.{ℕ, ◌+◌, ◌-◌, ◌*◌}
+use Prim.Native.Nat.{◌+◌, ◌-◌, ◌*◌}
 use native.Mathlib.Omega.{arith}
 use lib.ListN.{length-set}
 use Rattle.words.specs.Lists.{entry}
 use Rattle.words.proofs.Lists.{filled_none, run-next}
-use Rattle.sharing.specs.declared.Setting.{Setting}
 use Rattle.challenge.specs.Message.{challenge_of, coefficient_message, check_polynomial}
 use Rattle.challenge.proofs.Buffers.{coefficient-put, coefficient-next}
 use Rattle.challenge.proofs.message.check_polynomial.Goals as goal
-
-abbrev coefficient_of : Setting → ℕ → (ℕ → ℕ) → (ℕ → ℕ) → ℕ → ℕ
-coefficient_of S d v Y k = challenge_of S (coefficient_message S d v Y k)
+use Rattle.challenge.proofs.message.check_polynomial.Invariants.{coefficient_of}
 
 pub loop-k-init : goal.loop-k-init
 loop-k-init c =
-    (omega arith, omega (arith, c.requires.0.n-most), c.coefficient_message-at.auto.0 ∙ refl, coefficient-put _ _ _ _ 0 0 c.coefficient_message-at.ensures.1 _ _ c.coefficient_message-at.ensures.2 refl (omega arith), filled_none 31)
+    (omega arith, omega (arith, c.requires.0.n-most), c.coefficient_message-at.auto.m ∙ refl, coefficient-put _ _ _ _ 0 0 c.coefficient_message-at.ensures.1 _ _ c.coefficient_message-at.ensures.2 refl (omega arith), filled_none 31)
 
 pub challenge-requires : goal.challenge-requires
 challenge-requires c = (c.requires.0, simp length-set (omega (arith, c.requires.0.n-most)), omega (arith, c.requires.0.n-most))

@@ -1,25 +1,21 @@
 -- `dealing_challenge` meets its contract. The loop's invariant: the words of the first i members stand behind the head.
 use mathlib.Core.Path.{◌≡◌, refl, sym, ap, ◌∙◌}
-use mathlib.Core.List.{List, [], ◌∷◌}
-use Prim.Native.Nat.{ℕ, ◌+◌, ◌-◌, ◌*◌}
+use mathlib.Core.List.{[], ◌∷◌}
+use Prim.Native.Nat.{ℕ, ◌+◌, ◌*◌}
 use native.Mathlib.Omega.{arith}
 use Rattle.words.specs.Bytes.{put_at}
-use Rattle.words.specs.Lists.{entry}
 use Rattle.words.proofs.Bytes.{put-none}
 use Rattle.words.proofs.Lists.{entry_at}
 use Rattle.sharing.specs.Setting.{members}
 use Rattle.challenge.specs.Message.{dealing_tag, bytes_over, challenge_of, dealing_message}
 use Rattle.challenge.proofs.Buffers.{members-length, over-next, behind-head}
 use Rattle.challenge.proofs.message.dealing_challenge.Goals as goal
-
--- the words of member j
-abbrev words : List ℕ → List ℕ → List ℕ → List ℕ → ℕ → List ℕ
-words vs encrypted a1s a2s j = entry vs j ∷ entry encrypted j ∷ entry a1s j ∷ entry a2s j ∷ []
+use Rattle.challenge.proofs.message.dealing_challenge.Invariants.{words}
 
 pub loop-i-init : goal.loop-i-init
 unfolding bytes_over
 loop-i-init c =
-    (omega arith, c.requires.0.n-most, c.head-at.ensures.0, c.head-at.auto.0 ∙ refl, sym (put-none c.head-at.result _))
+    (omega arith, c.requires.0.n-most, c.head-at.ensures.0, c.head-at.auto.m ∙ refl, sym (put-none c.head-at.result _))
 
 pub loop-i-preserved : goal.loop-i-preserved
 loop-i-preserved c =
@@ -29,8 +25,8 @@ loop-i-preserved c =
       omega (arith, c.loop-i-test.true),
       l.invariant.1,
       l.invariant.2,
-      c.put_four.auto.0 ∙ l.invariant.3,
-      over-next f 16 (λ j. refl) c.head-at.result l.i _ c.head-at.new.0 (omega (arith, c.head-at.auto.0))
+      c.put_four.auto.m ∙ l.invariant.3,
+      over-next f 16 (λ j. refl) c.head-at.result l.i _ c.head-at.new.m (omega (arith, c.head-at.auto.m))
           (λ j. entry_at a.vs.now l.i j ∷ entry_at a.encrypted.now l.i j ∷ entry_at a.a1s.now l.i j ∷ entry_at a.a2s.now l.i j ∷ [])
           l.invariant.4 c.put_four.ensures,
     )
@@ -48,5 +44,5 @@ returns c =
     c.challenge.ensures
     ∙ ap (challenge_of a.s)
     (behind-head dealing_tag a.s a.d (bytes_over f (members a.s.n)) _ (c.head-at.result + 16 * a.s.n) c.head-at.ensures.1 c.head-at.ensures.2
-    (l.invariant.4 ∙ ap (λ (k : ℕ). put_at c.head-at.result (bytes_over f (members k)) c.head-at.new.0) end)
+    (l.invariant.4 ∙ ap (λ (k : ℕ). put_at c.head-at.result (bytes_over f (members k)) c.head-at.new.m) end)
     (omega (arith, members-length f 16 (λ j. refl) a.s.n)) (omega arith))

@@ -12,4 +12,4 @@ returns c =
     let a = c.args in
     put-words a.at (a.at + 4) (a.a ∷ []) (a.b ∷ []) a.m.now (omega arith) (omega arith)
     (c.put_word.ensures ∙ ap (λ (t : List ℕ). put_at a.at t a.m.now) (words-one a.a))
-    (c.put_word-2.ensures ∙ ap (λ (t : List ℕ). put_at (a.at + 4) t c.put_word.new.0) (words-one a.b))
+    (c.put_word-2.ensures ∙ ap (λ (t : List ℕ). put_at (a.at + 4) t c.put_word.new.b) (words-one a.b))

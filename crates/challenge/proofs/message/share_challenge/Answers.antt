@@ -24,11 +24,11 @@ returns c =
     let ws = f.y.0 ∷ f.encrypted.0 ∷ f.decrypted.0 ∷ f.a1.0 ∷ [] in
     let us = f.a2.0 ∷ [] in
     let at = c.head-at.result in
-    let l = set c.head-at.new.0 at f.member in
-    let n : length c.head-at.new.0 ≡ 37 = c.head-at.auto.0 ∙ refl in
+    let l = set c.head-at.new.m at f.member in
+    let n : length c.head-at.new.m ≡ 37 = c.head-at.auto.m ∙ refl in
     let p =
-    put-words (at + 1) (at + 17) ws us l (omega arith) (omega (arith, length-set c.head-at.new.0 at f.member)) c.put_four.ensures
-    (c.put_word.ensures ∙ ap (λ (t : List ℕ). put_at (at + 17) t c.put_four.new.0) (words-one f.a2.0))
+    put-words (at + 1) (at + 17) ws us l (omega arith) (omega (arith, length-set c.head-at.new.m at f.member)) c.put_four.ensures
+    (c.put_word.ensures ∙ ap (λ (t : List ℕ). put_at (at + 17) t c.put_four.new.m) (words-one f.a2.0))
     in
     c.challenge.ensures
     ∙ ap (challenge_of a.s)

@@ -11,10 +11,13 @@ pub returns-in-Refused : goal.returns-in-Refused
 unfolding write_share_outcome lent_after_share
 returns-in-Refused c =
     let e = c.setting_of.ensures in
-    (judged-refused _ _ _ _ e c.in-Refused.is, judged-kept _ _ _ _ e c.in-Refused.is _)
+    record { result_value = judged-refused _ _ _ _ e c.in-Refused.is; out_after = judged-kept _ _ _ _ e c.in-Refused.is _ }
 
 pub returns-in-Value : goal.returns-in-Value
 unfolding write_share_outcome write_share_in lent_after_share lent_after_share_in
 returns-in-Value c =
     let e = c.setting_of.ensures in
-    (c.write_in.ensures.result_value ∙ judged-value _ _ _ _ e c.in-Value.is, c.write_in.ensures.out_after ∙ judged-lent _ _ _ _ e c.in-Value.is _)
+    record {
+      result_value = c.write_in.ensures.result_value ∙ judged-value _ _ _ _ e c.in-Value.is;
+      out_after = c.write_in.ensures.out_after ∙ judged-lent _ _ _ _ e c.in-Value.is _;
+    }

@@ -7,7 +7,8 @@ use Rattle.share.proofs.writer.write_added.Goals as goal
 
 pub returns : goal.returns
 returns c =
-    let a = c.args in (
-      c.write.ensures.result_value ∙ ap (λ (F : ShareForm). write_share_outcome a.table.now a.rd F a.i a.encrypted.0 a.x.0 a.w.0 (length a.out.now)) c.added_form.ensures,
-      c.write.ensures.out_after ∙ ap (λ (F : ShareForm). lent_after_share a.table.now a.rd F a.i a.encrypted.0 a.x.0 a.w.0 a.out.now) c.added_form.ensures,
-    )
+    let a = c.args in
+    record {
+      result_value = c.write.ensures.result_value ∙ ap (λ (F : ShareForm). write_share_outcome a.table.now a.rd F a.i a.encrypted.0 a.x.0 a.w.0 (length a.out.now)) c.added_form.ensures;
+      out_after = c.write.ensures.out_after ∙ ap (λ (F : ShareForm). lent_after_share a.table.now a.rd F a.i a.encrypted.0 a.x.0 a.w.0 a.out.now) c.added_form.ensures;
+    }

@@ -10,7 +10,10 @@ pub returns-then-k-ne0 : goal.returns-then-k-ne0
 unfolding write_share_in lent_after_share_in
 returns-then-k-ne0 c =
     let e = c.write_refusal-k.ensures in
-    (last-refused (write_share_checks _ _ _ _ _ _ _) e c.if-k-ne0.true tt, last-kept (write_share_checks _ _ _ _ _ _ _) e c.if-k-ne0.true _ _)
+    record {
+      result_value = last-refused (write_share_checks _ _ _ _ _ _ _) e c.if-k-ne0.true tt;
+      out_after = last-kept (write_share_checks _ _ _ _ _ _ _) e c.if-k-ne0.true _ _;
+    }
 
 pub put_share-requires : goal.put_share-requires
 put_share-requires c =
@@ -21,4 +24,7 @@ pub returns : goal.returns
 unfolding write_share_in lent_after_share_in
 returns c =
     let m = write-none _ _ _ _ _ _ _ c.write_refusal-k.ensures c.if-k-ne0.false in
-    (sym ((value-exactly Unit (write_share_checks _ _ _ _ _ _ _) tt).1 m), c.put_share.ensures ∙ sym (if-met _ _ (write_share_checks _ _ _ _ _ _ _) m))
+    record {
+      result_value = sym ((value-exactly Unit (write_share_checks _ _ _ _ _ _ _) tt).1 m);
+      out_after = c.put_share.ensures ∙ sym (if-met _ _ (write_share_checks _ _ _ _ _ _ _) m);
+    }

@@ -1,35 +1,39 @@
 -- `write_refusal` meets its contract: each test that fails decides.
-use mathlib.Core.Logic.{⊎_elim}
+use mathlib.Core.Path.{sym, ◌∙◌}
 use borrow.Author.Tests.{eq-eqb, ne_eqb}
-use Rattle.words.proofs.Tests.{passed, failed}
 use Rattle.share.specs.Share.{members_checks, write_share_checks}
 use Rattle.share.proofs.writer.write_refusal.Goals as goal
+use Rattle.share.proofs.writer.write_refusal.Goals.{then-not-is_secret_key-via-then-not-is_secret_key, then-not-is_secret_key-via-else-not-is_secret_key+then-not-is_exponent}
 
 pub returns-then-not-are_members : goal.returns-then-not-are_members
 unfolding write_share_checks members_checks
-returns-then-not-are_members c = simp (failed c.are_members.ensures c.if-not-are_members.true-raw)
+returns-then-not-are_members c = simp (sym c.are_members.ensures ∙ c.if-not-are_members.true)
 
 pub returns-then-room-ne32 : goal.returns-then-room-ne32
 unfolding write_share_checks members_checks
-returns-then-room-ne32 c = simp (passed c.are_members.ensures c.if-not-are_members.false-raw, ne_eqb _ 32 c.if-room-ne32.true)
+returns-then-room-ne32 c = simp (sym c.are_members.ensures ∙ c.if-not-are_members.false, ne_eqb _ 32 c.if-room-ne32.true)
 
 pub returns-then-not-is_element : goal.returns-then-not-is_element
 unfolding write_share_checks members_checks
 returns-then-not-is_element c =
     simp
-    (passed c.are_members.ensures c.if-not-are_members.false-raw, eq-eqb _ 32 c.if-room-ne32.false, failed c.is_element.ensures c.if-not-is_element.true-raw)
+    (sym c.are_members.ensures ∙ c.if-not-are_members.false, eq-eqb _ 32 c.if-room-ne32.false, sym c.is_element.ensures ∙ c.if-not-is_element.true)
 
 pub returns-then-not-is_secret_key : goal.returns-then-not-is_secret_key
 unfolding write_share_checks members_checks
 returns-then-not-is_secret_key c =
-    let m = passed c.are_members.ensures c.if-not-are_members.false-raw in
+    let m = sym c.are_members.ensures ∙ c.if-not-are_members.false in
     let l = eq-eqb _ 32 c.if-room-ne32.false in
-    let Y = passed c.is_element.ensures c.if-not-is_element.false-raw in
+    let Y = sym c.is_element.ensures ∙ c.if-not-is_element.false in
     let x = c.is_secret_key.ensures in
-    ⊎_elim (λ w. simp (m, l, Y, failed x w.taken)) (λ w. simp (m, l, Y, passed x w.0.left, failed w.1.ensures w.2.taken)) c.if-not-is_secret_key.branch-raw
+    elim c.then-not-is_secret_key.branch [
+      | then-not-is_secret_key-via-then-not-is_secret_key w ↦ simp (m, l, Y, sym x ∙ w.if-not-is_secret_key.true)
+      | then-not-is_secret_key-via-else-not-is_secret_key+then-not-is_exponent w ↦
+          simp (m, l, Y, sym x ∙ w.if-not-is_secret_key.false, sym w.is_exponent.ensures ∙ w.if-not-is_exponent.true)
+    ]
 
 pub returns : goal.returns
 unfolding write_share_checks members_checks
 returns c =
     simp
-    (passed c.are_members.ensures c.if-not-are_members.false-raw, eq-eqb _ 32 c.if-room-ne32.false, passed c.is_element.ensures c.if-not-is_element.false-raw, passed c.is_secret_key.ensures c.if-not-is_secret_key.false-raw, passed c.is_exponent.ensures c.if-not-is_exponent.false-raw)
+    (sym c.are_members.ensures ∙ c.if-not-are_members.false, eq-eqb _ 32 c.if-room-ne32.false, sym c.is_element.ensures ∙ c.if-not-is_element.false, sym c.is_secret_key.ensures ∙ c.if-not-is_secret_key.false, sym c.is_exponent.ensures ∙ c.if-not-is_exponent.false)

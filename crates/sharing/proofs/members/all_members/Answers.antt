@@ -3,7 +3,6 @@ use mathlib.Core.Path.{◌≡◌, refl, sym, ◌∙◌}
 use Prim.Native.Nat.{◌-◌}
 use native.Mathlib.Omega.{arith}
 use borrow.Author.Rules.{rules}
-use borrow.Author.Tests.{not-true, not-false}
 use lib.ListN.{length}
 use Rattle.words.proofs.Tests.{all-next, all-stop, all_end}
 use Rattle.sharing.specs.Setting.{is_member}
@@ -15,12 +14,12 @@ loop-i-init c = (search rules, refl)
 pub returns-then-not-is_member : goal.returns-then-not-is_member
 returns-then-not-is_member c =
     let l = c.loop-i in
-    sym (l.invariant.1 ∙ all-stop (is_member _) _ l.i 0 c.loop-i-test.true (sym c.is_member.ensures ∙ not-true _ c.if-not-is_member.true-raw))
+    sym (l.invariant.1 ∙ all-stop (is_member _) _ l.i 0 c.loop-i-test.true (sym c.is_member.ensures ∙ c.if-not-is_member.true))
 
 pub loop-i-preserved : goal.loop-i-preserved
 loop-i-preserved c =
     let l = c.loop-i in
-    (search rules, l.invariant.1 ∙ all-next (is_member _) _ l.i 0 c.loop-i-test.true (sym c.is_member.ensures ∙ not-false _ c.if-not-is_member.false-raw))
+    (search rules, l.invariant.1 ∙ all-next (is_member _) _ l.i 0 c.loop-i-test.true (sym c.is_member.ensures ∙ c.if-not-is_member.false))
 
 pub returns : goal.returns
 returns c =

@@ -1,5 +1,5 @@
 -- `settings::setting_in` meets its contract: the look-up tells the group or that there is none, and then the range decides.
-use Rattle.words.proofs.Tests.{passed, failed}
+use mathlib.Core.Path.{sym, ◌∙◌}
 use Rattle.group.proofs.Answers.{group-value, group-refused}
 use Rattle.sharing.specs.Setting.{round_figures, figures_outcome}
 use Rattle.sharing.proofs.settings.setting_in.Goals as goal
@@ -12,10 +12,10 @@ pub returns-then-not-in_range : goal.returns-then-not-in_range
 unfolding figures_outcome round_figures
 returns-then-not-in_range c =
     let g = group-value _ _ c.group_in.ensures c.in-Value.is in
-    simp (g.0, g.1, failed c.in_range.ensures c.if-not-in_range.true-raw)
+    simp (g.0, g.1, sym c.in_range.ensures ∙ c.if-not-in_range.true)
 
 pub returns : goal.returns
 unfolding figures_outcome round_figures
 returns c =
     let g = group-value _ _ c.group_in.ensures c.in-Value.is in
-    simp (g.0, g.1, passed c.in_range.ensures c.if-not-in_range.false-raw, c.takes_whole.ensures)
+    simp (g.0, g.1, sym c.in_range.ensures ∙ c.if-not-in_range.false, c.takes_whole.ensures)
