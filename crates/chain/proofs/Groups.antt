@@ -1,12 +1,9 @@
 -- What of a table enters the operations on chains: its groups.
-use mathlib.Core.Path.{◌≡◌, sym, ◌∙◌}
-use mathlib.Core.List.{List}
-use Prim.Native.Nat.{ℕ}
+use mathlib.Core.Path.{sym, ◌∙◌}
 use lib.ListN.{length}
 use Rattle.words.specs.Checks.{outcome}
 use Rattle.words.proofs.Stages.{rest-outcome}
 use Rattle.group.specs.Table.{groups_of, table_checks}
-use Rattle.group.specs.declared.Group.{Group}
 use Rattle.group.proofs.Table.{groups-outcome, groups-choice}
 use Rattle.chain.specs.Chain.{linked_checks, chain_checks, chain_outcome, next_link, next_checks, extend_checks, extend_outcome, lent_link}
 use Rattle.chain.specs.Claims.{ChainByGroups}

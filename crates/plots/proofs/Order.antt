@@ -12,29 +12,29 @@ use Rattle.plots.specs.Rank.{comes_before}
 use Rattle.plots.specs.Claims.{StrictOrder, PlotsOrder, came_before, FormerOrder}
 
 module _ (r : ℕ → ℕ) (tie : ℕ → ℕ → Bool) where
-  abbrev by_rank : ℕ → ℕ → Bool
-  by_rank a b = pick (eqb (r a) (r b)) (tie a b) (ltb (r a) (r b))
+  abbrev rank_order : ℕ → ℕ → Bool
+  rank_order a b = pick (eqb (r a) (r b)) (tie a b) (ltb (r a) (r b))
 
   pub data Ranked (a b : ℕ) : Type 0 where
     by_rank : r a < r b → Ranked a b
     by_number : r a ≡ r b → tie a b ≡ true → Ranked a b
 
-  pub ranked-true : (a b : ℕ) → by_rank a b ≡ true → Ranked a b
+  pub ranked-true : (a b : ℕ) → rank_order a b ≡ true → Ranked a b
   ranked-true a b = by-test (eqb (r a) (r b)) refl
     where
       by-test : (t : Bool) → eqb (r a) (r b) ≡ t → pick t (tie a b) (ltb (r a) (r b)) ≡ true → Ranked a b
       by-test true e h = by_number (eqb-true (r a) (r b) e) h
       by-test false e h = by_rank (ltb-true (r a) (r b) h)
 
-  pub true-ranked : (a b : ℕ) → Ranked a b → by_rank a b ≡ true
+  pub true-ranked : (a b : ℕ) → Ranked a b → rank_order a b ≡ true
   true-ranked a b (by_rank l) = pick-false (eqb (r a) (r b)) _ _ (ne_eqb (r a) (r b) (λ e. omega arith)) ∙ lt-ltb _ _ l
   true-ranked a b (by_number e h) = pick_true (eqb (r a) (r b)) _ _ (eq-eqb _ _ e) ∙ h
 
   -- different ranks alone decide, and of plots of equal rank the numbers
-  pub by-different : (a b : ℕ) → (r a ≡ r b → ⊥) → by_rank a b ≡ ltb (r a) (r b)
+  pub by-different : (a b : ℕ) → (r a ≡ r b → ⊥) → rank_order a b ≡ ltb (r a) (r b)
   by-different a b n = pick-false (eqb (r a) (r b)) _ _ (ne_eqb (r a) (r b) n)
 
-  pub by_equal : (a b : ℕ) → r a ≡ r b → by_rank a b ≡ tie a b
+  pub by_equal : (a b : ℕ) → r a ≡ r b → rank_order a b ≡ tie a b
   by_equal a b e = pick_true (eqb (r a) (r b)) _ _ (eq-eqb (r a) (r b) e)
 
   module _ (O : StrictOrder tie) where
@@ -51,17 +51,17 @@ module _ (r : ℕ → ℕ) (tie : ℕ → ℕ → Bool) where
     never_both {a} {b} (by_number e l) (by_number f h) = false-true (sym (O.one_way a b l) ∙ h)
 
     -- of two different plots
-    other-first : (a b : ℕ) → (a ≡ b → ⊥) → by_rank a b ≡ false → Ranked b a
+    other-first : (a b : ℕ) → (a ≡ b → ⊥) → rank_order a b ≡ false → Ranked b a
     other-first a b n = by-test (eqb (r a) (r b)) refl
       where
         by-test : (t : Bool) → eqb (r a) (r b) ≡ t → pick t (tie a b) (ltb (r a) (r b)) ≡ false → Ranked b a
         by-test true e h = by_number (sym (eqb-true (r a) (r b) e)) (O.total a b n h)
         by-test false e h = by_rank (omega (arith, ltb-false (r a) (r b) h, eqb-false (r a) (r b) e))
 
-    ranked-order : StrictOrder by_rank
+    ranked-order : StrictOrder rank_order
     ranked-order =
         record {
-          one_way = λ a b e. refuted (by_rank b a) (λ f. never_both (ranked-true a b e) (ranked-true b a f));
+          one_way = λ a b e. refuted (rank_order b a) (λ f. never_both (ranked-true a b e) (ranked-true b a f));
           transitive = λ a b c e f. true-ranked a c (ranked-both (ranked-true a b e) (ranked-true b c f));
           total = λ a b n e. true-ranked b a (other-first a b n e);
         }

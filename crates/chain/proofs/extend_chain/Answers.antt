@@ -17,17 +17,20 @@ pub returns-then-refused-ne0 : goal.returns-then-refused-ne0
 unfolding extend_outcome lent_link
 returns-then-refused-ne0 c =
     let checks : List Check =
-        extend_checks c.args.table.now c.args.b.now c.args.number c.args.value.0 (length c.args.out.now) in
+    extend_checks c.args.table.now c.args.b.now c.args.number c.args.value.0 (length c.args.out.now) in
     let cs = checks in
-    (last-refused cs c.extend_refusal-refused.ensures c.if-refused-ne0.true tt, last-kept cs c.extend_refusal-refused.ensures c.if-refused-ne0.true _ _)
+    record {
+      result_value = last-refused cs c.extend_refusal-refused.ensures c.if-refused-ne0.true tt;
+      out_after = last-kept cs c.extend_refusal-refused.ensures c.if-refused-ne0.true _ _;
+    }
 
 pub put_next-requires : goal.put_next-requires
 unfolding extend_checks
 put_next-requires c =
     let checks : List Check =
-        extend_checks c.args.table.now c.args.b.now c.args.number c.args.value.0 (length c.args.out.now) in
+    extend_checks c.args.table.now c.args.b.now c.args.number c.args.value.0 (length c.args.out.now) in
     let met : Met checks =
-        let a = c.args in
+    let a = c.args in
     (none-exactly checks (extend-numbered a.table.now a.b.now a.number a.value.0 (length a.out.now))).0
     (sym c.extend_refusal-refused.ensures ∙ c.if-refused-ne0.false) in
     let a = c.args in
@@ -41,10 +44,10 @@ pub returns : goal.returns
 unfolding extend_outcome lent_link
 returns c =
     let checks : List Check =
-        extend_checks c.args.table.now c.args.b.now c.args.number c.args.value.0 (length c.args.out.now) in
+    extend_checks c.args.table.now c.args.b.now c.args.number c.args.value.0 (length c.args.out.now) in
     let met : Met checks =
-        let a = c.args in
+    let a = c.args in
     (none-exactly checks (extend-numbered a.table.now a.b.now a.number a.value.0 (length a.out.now))).0
     (sym c.extend_refusal-refused.ensures ∙ c.if-refused-ne0.false) in
     let cs = checks in
-    (sym ((value-exactly Unit cs tt).1 met), c.put_next.ensures ∙ sym (if-met _ _ cs met))
+    record { result_value = sym ((value-exactly Unit cs tt).1 met); out_after = c.put_next.ensures ∙ sym (if-met _ _ cs met) }

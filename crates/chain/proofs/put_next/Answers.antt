@@ -14,7 +14,7 @@ pub slice_bounds-write_record-end-2 : goal.slice_bounds-write_record-end-2
 slice_bounds-write_record-end-2 c = sym (length-take-le 32 c.args.out.now (omega (arith, c.requires.1)))
 
 pub write_record-requires : goal.write_record-requires
-write_record-requires c = sym (slice-aggregate-write-record c.before)
+write_record-requires c = length-take-le 32 c.args.out.now (omega (arith, c.requires.1))
 
 pub returns : goal.returns
 unfolding next_link

@@ -8,10 +8,16 @@ pub returns-in-Refused : goal.returns-in-Refused
 unfolding pick_outcome lent_plots
 returns-in-Refused c =
     let e = c.group_of.ensures in
-    (in-group-refused _ _ _ _ e c.in-Refused.is, in-group-kept _ _ _ _ e c.in-Refused.is _)
+    record {
+      result_value = in-group-refused _ _ _ _ e c.in-Refused.is;
+      out_after = in-group-kept _ _ _ _ e c.in-Refused.is _;
+    }
 
 pub returns-in-Value : goal.returns-in-Value
 unfolding pick_outcome pick_in lent_plots lent_plots_in
 returns-in-Value c =
     let e = c.group_of.ensures in
-    (c.pick_plots_in.ensures.result_value ∙ in-group-value _ _ _ _ e c.in-Value.is, c.pick_plots_in.ensures.out_after ∙ in-group-lent _ _ _ _ e c.in-Value.is _)
+    record {
+      result_value = c.pick_plots_in.ensures.result_value ∙ in-group-value _ _ _ _ e c.in-Value.is;
+      out_after = c.pick_plots_in.ensures.out_after ∙ in-group-lent _ _ _ _ e c.in-Value.is _;
+    }

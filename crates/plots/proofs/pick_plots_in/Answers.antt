@@ -14,41 +14,45 @@ pub returns-then-refused-ne0 : goal.returns-then-refused-ne0
 unfolding pick_in lent_plots_in
 returns-then-refused-ne0 c =
     let checks : List Check =
-        pick_checks c.args.gr c.args.value c.args.radius c.args.total c.args.count (length c.args.out.now) in
+    pick_checks c.args.gr c.args.value c.args.radius c.args.total c.args.count (length c.args.out.now) in
     let cs = checks in
-    (last-refused cs c.pick_refusal-refused.ensures c.if-refused-ne0.true tt, last-kept cs c.pick_refusal-refused.ensures c.if-refused-ne0.true _ _)
+    record {
+      result_value = last-refused cs c.pick_refusal-refused.ensures c.if-refused-ne0.true tt;
+      out_after = last-kept cs c.pick_refusal-refused.ensures c.if-refused-ne0.true _ _;
+    }
 
 pub overflow_cast-radius : goal.overflow_cast-radius
 overflow_cast-radius c =
     let checks : List Check =
-        pick_checks c.args.gr c.args.value c.args.radius c.args.total c.args.count (length c.args.out.now) in
+    pick_checks c.args.gr c.args.value c.args.radius c.args.total c.args.count (length c.args.out.now) in
     let met : Met checks =
-        stage-met checks c.pick_refusal-refused.ensures refl c.if-refused-ne0.false in
+    stage-met checks c.pick_refusal-refused.ensures refl c.if-refused-ne0.false in
     let settled : let a = c.args in Pickable a.radius a.total a.count (length a.out.now) =
-        pickable _ _ _ _ met.1 in
+    pickable _ _ _ _ met.1 in
     record { fits = settled.radius-low }
 
 pub put_picked-requires : goal.put_picked-requires
 put_picked-requires c =
     let checks : List Check =
-        pick_checks c.args.gr c.args.value c.args.radius c.args.total c.args.count (length c.args.out.now) in
+    pick_checks c.args.gr c.args.value c.args.radius c.args.total c.args.count (length c.args.out.now) in
     let met : Met checks =
-        stage-met checks c.pick_refusal-refused.ensures refl c.if-refused-ne0.false in
+    stage-met checks c.pick_refusal-refused.ensures refl c.if-refused-ne0.false in
     let settled : let a = c.args in Pickable a.radius a.total a.count (length a.out.now) =
-        pickable _ _ _ _ met.1 in
+    pickable _ _ _ _ met.1 in
     let p = settled in (p.N-most, omega (arith, p.size, p.k-most))
 
 pub returns : goal.returns
 unfolding pick_in lent_plots_in
 returns c =
     let checks : List Check =
-        pick_checks c.args.gr c.args.value c.args.radius c.args.total c.args.count (length c.args.out.now) in
+    pick_checks c.args.gr c.args.value c.args.radius c.args.total c.args.count (length c.args.out.now) in
     let met : Met checks =
-        stage-met checks c.pick_refusal-refused.ensures refl c.if-refused-ne0.false in
+    stage-met checks c.pick_refusal-refused.ensures refl c.if-refused-ne0.false in
     let settled : let a = c.args in Pickable a.radius a.total a.count (length a.out.now) =
-        pickable _ _ _ _ met.1 in
+    pickable _ _ _ _ met.1 in
     let cs = checks in
-    let a = c.args in (
-      sym ((value-exactly Unit cs tt).1 met),
-      c.put_picked.ensures ∙ ap (picked a.value.0 a.radius a.total) settled.size ∙ sym (if-met _ _ cs met),
-    )
+    let a = c.args in
+    record {
+      result_value = sym ((value-exactly Unit cs tt).1 met);
+      out_after = c.put_picked.ensures ∙ ap (picked a.value.0 a.radius a.total) settled.size ∙ sym (if-met _ _ cs met);
+    }

@@ -2,6 +2,7 @@
 use mathlib.Core.Path.{sym, ap, ◌∙◌}
 use mathlib.Core.List.{List}
 use Prim.Native.Nat.{ℕ}
+use native.Mathlib.Omega.{arith}
 use lib.Dec.{ltb}
 use lib.ListN.{length, take}
 use lib.Seq.{length-take-le}
@@ -12,10 +13,10 @@ use Rattle.plots.proofs.Keys.{picked-keys}
 use Rattle.plots.proofs.put_first.Goals as goal
 
 pub slice_bounds-put_plots-end-2 : goal.slice_bounds-put_plots-end-2
-slice_bounds-put_plots-end-2 c = sym (length-take-le _ c.sort.new.0 (slice-reshare-prefix-put-plots c.before))
+slice_bounds-put_plots-end-2 c = sym (length-take-le _ c.sort.new.a (omega arith))
 
 pub put_plots-requires : goal.put_plots-requires
-put_plots-requires c = slice-aggregate-put-plots c.before
+put_plots-requires c = sym (length-take-le _ c.sort.new.a (omega arith))
 
 pub returns : goal.returns
 returns c =
@@ -25,4 +26,4 @@ returns c =
     let spare = c.sort.ensures.spare_after ∙ ap (λ (l : List ℕ). spare_after l a.spare.now) c.put_keys.ensures in
     let plots = c.put_plots.ensures ∙ ap (λ (l : List ℕ). map plot_of (take (length a.out.now) l)) keys
     ∙ picked-keys a.value.0 a.radius n (length a.out.now) c.requires.0 in
-    (keys, (spare, plots))
+    record { keys_after = keys; spare_after = spare; out_after = plots }

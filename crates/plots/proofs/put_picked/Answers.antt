@@ -25,4 +25,4 @@ put_first-requires c =
 pub returns : goal.returns
 returns c =
     let a = c.args in
-    c.put_first.ensures.spare_after.1 ∙ ap (λ (n : ℕ). picked a.value.0 a.radius n (length a.out.now)) (places a.total 0 c.requires.0)
+    c.put_first.ensures.out_after ∙ ap (λ (n : ℕ). picked a.value.0 a.radius n (length a.out.now)) (places a.total 0 c.requires.0)

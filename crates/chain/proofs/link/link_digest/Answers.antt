@@ -13,10 +13,10 @@ pub put_word-requires : goal.put_word-requires
 put_word-requires c = omega (arith, message-length _ c.write_record.ensures)
 
 pub returns-in_default : goal.returns-in_default
-returns-in_default c = absurd (never-refused c.put_word-2.new.0 c.digest.ensures (omega arith) c.in_default.is)
+returns-in_default c = absurd (never-refused c.put_word-2.new.b c.digest.ensures (omega arith) c.in_default.is)
 
 pub returns : goal.returns
 returns c =
     let a = c.args in
     let m = message-put a.before c.write_record.ensures a.value.0 a.round c.put_word.ensures c.put_word-2.ensures in
-    sym (answer-value c.put_word-2.new.0 c.digest.ensures c.in-Value.is) ∙ ap hash_value m
+    sym (answer-value c.put_word-2.new.b c.digest.ensures c.in-Value.is) ∙ ap hash_value m

@@ -1,5 +1,4 @@
 -- `value_refusal` meets its contract: the look-up tells the group or that there is none, and then the element decides.
-use borrow.Author.Tests.{not-true, not-false}
 use Rattle.group.proofs.Answers.{group-value, group-refused}
 use Rattle.chain.proofs.link.value_refusal.Goals as goal
 
@@ -9,9 +8,9 @@ returns-in_default c = simp (group-refused _ _ c.group_in.ensures c.in_default.i
 pub returns-then-not-is_element : goal.returns-then-not-is_element
 returns-then-not-is_element c =
     let g = group-value _ _ c.group_in.ensures c.in-Value.is in
-    simp (g.0, g.1, ← c.is_element.ensures, not-true c.is_element.result c.if-not-is_element.true-raw)
+    simp (g.0, g.1, ← c.is_element.ensures, c.if-not-is_element.true)
 
 pub returns : goal.returns
 returns c =
     let g = group-value _ _ c.group_in.ensures c.in-Value.is in
-    simp (g.0, g.1, ← c.is_element.ensures, not-false c.is_element.result c.if-not-is_element.false-raw)
+    simp (g.0, g.1, ← c.is_element.ensures, c.if-not-is_element.false)

@@ -1,6 +1,5 @@
 -- `put_plots` meets its contract. The loop's invariant: the first i places hold the plots of the first i keys.
 use mathlib.Core.Path.{refl, sym, ◌∙◌}
-use Prim.Native.Nat.{◌-◌}
 use native.Mathlib.Omega.{arith}
 use borrow.Author.Rules.{rules}
 use Rattle.words.proofs.Lists.{map-length, map_at}

@@ -8,7 +8,7 @@ use Rattle.plots.proofs.rank.rank.Goals as goal
 
 pub returns-in_default : goal.returns-in_default
 returns-in_default c =
-    let m = c.put_word-2.new.0 in
+    let m = c.put_word-2.new.b in
     let short : length m ≤ 65536 = omega arith in
     absurd (never-refused m c.digest.ensures short c.in_default.is)
 
