@@ -1,6 +1,6 @@
 -- `field::value_at` meets its contract. The loop's invariant: r is the value of the coefficients from i on.
 use mathlib.Core.Path.{◌≡◌}
-use Prim.Native.Nat.{◌-◌, ◌≤◌, ◌<◌}
+use Prim.Native.Nat.{◌≤◌, ◌<◌}
 use lib.ListN.{length, drop}
 use Rattle.field.specs.Polynomial.{value_at}
 use Rattle.field.proofs.value_at.Given as goal

@@ -1,7 +1,6 @@
 -- `field::prime::is_prime` meets its contract. The loop's invariant: m and d are odd, no odd number from 3 to below d divides m, and k is the
 -- quotient of m by d.
 use mathlib.Core.Path.{sym}
-use Prim.Native.Nat.{◌-◌}
 use native.Mathlib.Omega.{arith}
 use Rattle.field.proofs.Loops.{trial-low, trial-even, trial-start, product-most, trial-room, trial-next, trial-stop, trial-end}
 use Rattle.field.proofs.prime.is_prime.Goals as goal

@@ -1,7 +1,7 @@
 -- `put_lines` meets its contract. The loop's invariant: what is written, with the lines that are left, is all the lines.
 use mathlib.Core.List.{◌++◌}
 use mathlib.Core.Path.{◌≡◌}
-use Prim.Native.Nat.{◌+◌, ◌-◌, ◌*◌, ◌≤◌}
+use Prim.Native.Nat.{◌-◌, ◌*◌, ◌≤◌}
 use lib.ListN.{length, take, drop}
 use Rattle.sharing.specs.Setting.{members}
 use Rattle.records.specs.Layout.{records_bytes}

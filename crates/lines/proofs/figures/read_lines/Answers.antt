@@ -1,6 +1,6 @@
 -- `read_lines` meets its contract. The loop's invariant: the arrays hold the figures of the first i members' lines, and 0 behind.
 use mathlib.Core.Path.{◌≡◌, ◌∙◌}
-use Prim.Native.Nat.{◌-◌, ◌<◌}
+use Prim.Native.Nat.{◌<◌}
 use native.Mathlib.Omega.{arith}
 use Rattle.words.proofs.Lists.{filled_none}
 use Rattle.sharing.proofs.EachMember.{members-next}

@@ -1,6 +1,5 @@
 -- `members::all_members` meets its contract. The loop's invariant: all are members exactly if all from index i on are.
 use mathlib.Core.Path.{◌≡◌, refl, sym, ◌∙◌}
-use Prim.Native.Nat.{◌-◌}
 use native.Mathlib.Omega.{arith}
 use borrow.Author.Rules.{rules}
 use lib.ListN.{length}

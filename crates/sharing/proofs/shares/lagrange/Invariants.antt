@@ -1,7 +1,7 @@
 -- `shares::lagrange` meets its contract. The loop's invariant: numbers and gaps are the products of j and of j - i over the other members j
 -- from index k on. Neither gap is 0, and the quotient of the two products is the product of the quotients.
 use mathlib.Core.Path.{◌≡◌}
-use Prim.Native.Nat.{◌-◌, ◌≤◌}
+use Prim.Native.Nat.{◌≤◌}
 use lib.ListN.{length, drop}
 use Rattle.field.specs.Residue.{sub}
 use Rattle.sharing.specs.Weights.{product_over}

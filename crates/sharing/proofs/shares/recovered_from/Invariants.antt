@@ -1,7 +1,7 @@
 -- `shares::recovered_from` meets its contract. The loop's invariant: the product is that of the shares from index i on to Lagrange's
 -- coefficients of their members.
 use mathlib.Core.Path.{◌≡◌}
-use Prim.Native.Nat.{◌-◌, ◌≤◌}
+use Prim.Native.Nat.{◌≤◌}
 use lib.ListN.{length, drop}
 use Rattle.words.specs.Lists.{map}
 use Rattle.sharing.specs.Weights.{lagrange_at, powers_product}

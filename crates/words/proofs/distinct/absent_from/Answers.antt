@@ -1,6 +1,5 @@
 -- `distinct::absent_from` meets its contract. The loop's invariant: x is absent from index k on exactly if it is from index j on.
 use mathlib.Core.Path.{◌≡◌, refl, sym, ◌∙◌}
-use Prim.Native.Nat.{◌-◌}
 use native.Mathlib.Omega.{arith}
 use borrow.Author.Rules.{rules}
 use lib.ListN.{length}

@@ -1,6 +1,5 @@
 -- `distinct::none_twice` meets its contract. The loop's invariant: no number stands twice exactly if none does from index i on.
 use mathlib.Core.Path.{◌≡◌, refl, sym, ◌∙◌}
-use Prim.Native.Nat.{◌-◌}
 use native.Mathlib.Omega.{arith}
 use borrow.Author.Rules.{rules}
 use borrow.Author.Tests.{not-true, not-false}
