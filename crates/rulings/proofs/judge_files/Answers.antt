@@ -8,7 +8,7 @@ use Rattle.rulings.proofs.Settings.{files-proper}
 use Rattle.rulings.proofs.judge_files.Goals as goal
 
 pub ruling_in-requires : goal.ruling_in-requires
-ruling_in-requires c = files-proper _ _ c.files_setting.ensures f
+ruling_in-requires c S f = files-proper _ _ c.files_setting.ensures f
 
 pub returns : goal.returns
 returns c =

@@ -6,7 +6,7 @@ use Rattle.rulings.proofs.Reached.{setting-refused, board-refused, board-reached
 use Rattle.rulings.proofs.ruling_in.Goals as goal
 
 pub board_refusal_in-k-requires : goal.board_refusal_in-k-requires
-board_refusal_in-k-requires c = let s = c.setting-in-Value-1.given in c.requires s.0.0 s.1
+board_refusal_in-k-requires c = c.requires _ c.in-Value.is
 
 pub returns-then-k-ne0 : goal.returns-then-k-ne0
 returns-then-k-ne0 c =
@@ -15,8 +15,7 @@ returns-then-k-ne0 c =
 
 pub all_verdicts-requires : goal.all_verdicts-requires
 all_verdicts-requires c =
-    let s = c.setting-in-Value-1.given in
-    (c.requires s.0.0 s.1, board-met s.0.0 c.args.board.now (sym c.board_refusal_in-k.ensures ∙ c.if-k-ne0.false))
+    (c.requires _ c.in-Value.is, board-met _ c.args.board.now (sym c.board_refusal_in-k.ensures ∙ c.if-k-ne0.false))
 
 pub returns-in-Refused : goal.returns-in-Refused
 returns-in-Refused c =
@@ -26,5 +25,4 @@ returns-in-Refused c =
 pub returns-else-k-ne0 : goal.returns-else-k-ne0
 returns-else-k-ne0 c =
     let a = c.args in
-    let s = c.setting-in-Value-1.given in
-    board-reached judges a.board.now a.setting s.1 (board-met s.0.0 a.board.now (sym c.board_refusal_in-k.ensures ∙ c.if-k-ne0.false)) c.all_verdicts.ensures
+    board-reached judges a.board.now a.setting c.in-Value.is (board-met _ a.board.now (sym c.board_refusal_in-k.ensures ∙ c.if-k-ne0.false)) c.all_verdicts.ensures

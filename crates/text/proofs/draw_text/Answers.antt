@@ -18,10 +18,9 @@ put_line-requires c =
 pub put_report-requires : goal.put_report-requires
 put_report-requires c =
     let a = c.args in
-    let s = c.setting-in-Value-1.given in
     let I = c.judge_files-ruling.ensures in (
-      (ruling-settled judges _ _ _ c.judge_files-ruling.result I s.0.0 s.1).proper.n-most,
-      room_as (reported-text judges _ _ _ c.judge_files-ruling.result I s.1)
+      (ruling-settled judges _ _ _ c.judge_files-ruling.result I _ c.in-Value.is).proper.n-most,
+      room_as (reported-text judges _ _ _ c.judge_files-ruling.result I c.in-Value.is)
           (text-room a.out.now (omega arith) judges a.table.now a.set.now a.board.now),
     )
 

@@ -36,9 +36,6 @@ loop-i-preserved c =
 pub overflow_add-result : goal.overflow_add-result
 overflow_add-result c = omega arith
 
-pub shape_of-out : goal.shape_of-out
-shape_of-out c = omega arith
-
 pub returns : goal.returns
 returns c =
     let s = c.loop-i in

@@ -14,8 +14,5 @@ overflow_add-at c = omega (arith, space-room _ _ _ c.requires)
 pub put_digits-requires : goal.put_digits-requires
 put_digits-requires c = digits-room _ _ _ c.requires
 
-pub shape_of-out : goal.shape_of-out
-shape_of-out c = c.put_digits.auto.0 ∙ simp length-set
-
 pub returns : goal.returns
 returns c = figure-written _ _ _ c.requires c.put_digits.ensures

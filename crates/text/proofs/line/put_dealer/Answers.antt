@@ -29,9 +29,6 @@ put_bytes-requires c =
     fourth-room (head c.args.d) (32 ∷ []) (verdict_text c.args.v) new_line c.requires c.put_worded-a.ensures c.put_bytes-b.ensures
     c.put_verdict-c.ensures
 
-pub shape_of-out : goal.shape_of-out
-shape_of-out c = omega arith
-
 pub returns : goal.returns
 unfolding dealer_line
 returns c =

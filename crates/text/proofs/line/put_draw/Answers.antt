@@ -11,27 +11,15 @@ use Rattle.text.proofs.line.put_draw.Goals as goal
 abbrev line_of : ElementAnswer → List ℕ
 line_of a = draw_line (element_outcome_of a)
 
-pub enum_known-draw : goal.enum_known-draw
-enum_known-draw c = c.in-Value.keys1
-
 pub put_line-requires : goal.put_line-requires
 put_line-requires c = room_as (ap line_of c.in-Value.is) c.requires
-
-pub enum_known-draw-in-Refused-1 : goal.enum_known-draw-in-Refused-1
-enum_known-draw-in-Refused-1 c = c.in-Value.keys2
 
 pub put_line-requires-in-Refused : goal.put_line-requires-in-Refused
 unfolding refused_line
 put_line-requires-in-Refused c = room_as (ap line_of c.in-Refused.is) c.requires
 
-pub shape_of-out-in-Value : goal.shape_of-out-in-Value
-shape_of-out-in-Value c = c.put_line.auto.0
-
 pub returns-in-Value : goal.returns-in-Value
 returns-in-Value c = written_as (ap line_of c.in-Value.is) c.put_line.ensures
-
-pub shape_of-out-in-Refused : goal.shape_of-out-in-Refused
-shape_of-out-in-Refused c = c.put_line-in-Refused.auto.0
 
 pub returns-in-Refused : goal.returns-in-Refused
 unfolding refused_line

@@ -18,9 +18,6 @@ pub put_bytes-requires : goal.put_bytes-requires
 put_bytes-requires c =
     room-rest (c.args.word.now ++ figure c.args.v) new_line (room_as (two c.args.word.now c.args.v) c.requires) c.put_worded-next.ensures
 
-pub shape_of-out : goal.shape_of-out
-shape_of-out c = omega arith
-
 pub returns : goal.returns
 returns c =
     let e = two c.args.word.now c.args.v in

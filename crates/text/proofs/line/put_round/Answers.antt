@@ -35,9 +35,6 @@ put_bytes-requires c =
     let S = c.args.s in
     fourth-room (head S) (figure S.n) (figure S.t) new_line c.requires c.put_worded-a.ensures c.put_figure-b.ensures c.put_figure-c.ensures
 
-pub shape_of-out : goal.shape_of-out
-shape_of-out c = omega arith
-
 pub returns : goal.returns
 unfolding round_line
 returns c =

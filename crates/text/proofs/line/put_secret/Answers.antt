@@ -4,38 +4,20 @@ use Rattle.text.specs.Text.{secret_text}
 use Rattle.text.proofs.Writing.{room_as, written_as}
 use Rattle.text.proofs.line.put_secret.Goals as goal
 
-pub enum_known-s : goal.enum_known-s
-enum_known-s c = c.in-Opened.keys1
-
 pub put_worded-requires : goal.put_worded-requires
 put_worded-requires c = room_as (ap secret_text c.in-Opened.is) c.requires
-
-pub enum_known-s-in-Recovered-1 : goal.enum_known-s-in-Recovered-1
-enum_known-s-in-Recovered-1 c = c.in-Opened.keys2
 
 pub put_worded-requires-in-Recovered : goal.put_worded-requires-in-Recovered
 put_worded-requires-in-Recovered c = room_as (ap secret_text c.in-Recovered.is) c.requires
 
-pub enum_told-1 : goal.enum_told-1
-enum_told-1 c = c.in-Opened.keys3
-
 pub put_bytes-requires : goal.put_bytes-requires
 put_bytes-requires c = room_as (ap secret_text c.in-Stuck.is) c.requires
-
-pub shape_of-out-in-Opened : goal.shape_of-out-in-Opened
-shape_of-out-in-Opened c = c.put_worded.auto.0
 
 pub returns-in-Opened : goal.returns-in-Opened
 returns-in-Opened c = written_as (ap secret_text c.in-Opened.is) c.put_worded.ensures
 
-pub shape_of-out-in-Recovered : goal.shape_of-out-in-Recovered
-shape_of-out-in-Recovered c = c.put_worded-in-Recovered.auto.0
-
 pub returns-in-Recovered : goal.returns-in-Recovered
 returns-in-Recovered c = written_as (ap secret_text c.in-Recovered.is) c.put_worded-in-Recovered.ensures
-
-pub shape_of-out-in-Stuck : goal.shape_of-out-in-Stuck
-shape_of-out-in-Stuck c = c.put_bytes.auto.0
 
 pub returns-in-Stuck : goal.returns-in-Stuck
 returns-in-Stuck c = written_as (ap secret_text c.in-Stuck.is) c.put_bytes.ensures

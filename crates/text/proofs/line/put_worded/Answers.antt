@@ -10,8 +10,5 @@ put_bytes-next-requires c = room-first c.args.word.now (figure c.args.v) c.requi
 pub put_figure-requires : goal.put_figure-requires
 put_figure-requires c = room-rest c.args.word.now (figure c.args.v) c.requires c.put_bytes-next.ensures
 
-pub shape_of-out : goal.shape_of-out
-shape_of-out c = c.put_figure.auto.0 ∙ c.put_bytes-next.auto.0
-
 pub returns : goal.returns
 returns c = both c.args.word.now (figure c.args.v) c.requires c.put_bytes-next.ensures c.put_figure.ensures

@@ -34,16 +34,12 @@ pub loop-i-smaller : goal.loop-i-smaller
 loop-i-smaller c = omega arith
 
 pub loop-i-preserved : goal.loop-i-preserved
-loop-i-preserved c =
-    (
-      omega arith,
-      omega (arith, c.put_dealer-next.auto.0),
-      line-written c.args.at c.loop-i.i c.args.n c.args.verdicts _ c.requires.1 (omega arith) (omega arith) c.loop-i.invariant.2
-          c.put_dealer-next.ensures,
-    )
-
-pub shape_of-out : goal.shape_of-out
-shape_of-out c = omega arith
+loop-i-preserved c = (
+  omega arith,
+  omega (arith, c.put_dealer-next.auto.out),
+  line-written c.args.at c.loop-i.i c.args.n c.args.verdicts _ c.requires.1 (omega arith) (omega arith) c.loop-i.invariant.2
+      c.put_dealer-next.ensures,
+)
 
 pub returns : goal.returns
 returns c =

@@ -47,9 +47,6 @@ put_draw-requires c =
     fourth-room (round_line S) (dealers S A) (accepted_line A.accepted) (last A) c.requires.1 c.put_round-a.ensures c.put_dealers-b.ensures
     c.put_line-c.ensures
 
-pub shape_of-out : goal.shape_of-out
-shape_of-out c = omega arith
-
 pub returns : goal.returns
 unfolding report_from accepted_line
 returns c =

@@ -12,7 +12,6 @@ use Rattle.verdicts.proofs.Turns.{above-start, above-next, all-verdicts, count_m
 use Rattle.verdicts.proofs.Judgements.{above-judged}
 use Rattle.sharing.proofs.EachMember.{members-front}
 use Rattle.verdicts.proofs.judge.all_verdicts.Goals as goal
-use Rattle.verdicts.proofs.judge.all_verdicts.Lts as lts
 
 pub board_keys-ys-requires : goal.board_keys-ys-requires
 board_keys-ys-requires c =
@@ -25,15 +24,15 @@ loop-d-init c =
     let a = c.args in
     (c.requires.0.n-most, omega (arith, c.requires.0.proper.prime-p.above-one), above-start (verdict_on judges a.s a.b.now) a.s.group.p a.s.n)
 
--- the first n places of the array are the members' keys
-front : (c : lts.After-board_keys-ys invariant-loop decreases-loop) → let a = c.args in take a.s.n c.board_keys-ys.result ≡ keys_in a.s.n a.b.now
-front c = let a = c.args in members-front (key_in a.b.now) a.s.n c.board_keys-ys.ensures
-
 pub slice_bounds-verdict-end : goal.slice_bounds-verdict-end
 slice_bounds-verdict-end c = sym (length-take-le _ _ (search rules))
 
 pub verdict-v-requires : goal.verdict-v-requires
-verdict-v-requires c = (c.requires.0, c.requires.1, front c.before.before.before)
+verdict-v-requires c =
+    let a = c.args in
+    -- the first n places of the array are the members' keys
+    let front : take a.s.n c.board_keys-ys.result ≡ keys_in a.s.n a.b.now = members-front (key_in a.b.now) a.s.n c.board_keys-ys.ensures in
+    (c.requires.0, c.requires.1, front)
 
 pub overflow_add-accepted : goal.overflow_add-accepted
 overflow_add-accepted c =

@@ -17,62 +17,62 @@ find_opening-at-requires c = lines-sorted _ _ _ c.requires.0
 pub slice_bounds-vs-end : goal.slice_bounds-vs-end
 slice_bounds-vs-end c =
     let commitments : take c.args.s.n c.args.figures.vs ≡ commitments_of c.args.s c.args.b.now c.args.d =
-        commitments-are c.args.s c.args.b.now c.args.d c.requires.1 in
+    commitments-are c.args.s c.args.b.now c.args.d c.requires.1 in
     let commitments-size : length (take c.args.s.n c.args.figures.vs) ≡ c.args.s.n =
-        (lines-commitments c.args.s c.args.b.now c.args.d c.requires.0 commitments).size in
+    (lines-commitments c.args.s c.args.b.now c.args.d c.requires.0 commitments).size in
     full-taken _ _ commitments-size
 
 pub slice_bounds-opened_at-end : goal.slice_bounds-opened_at-end
 slice_bounds-opened_at-end c =
     let commitments : take c.args.s.n c.args.figures.vs ≡ commitments_of c.args.s c.args.b.now c.args.d =
-        commitments-are c.args.s c.args.b.now c.args.d c.requires.1 in
+    commitments-are c.args.s c.args.b.now c.args.d c.requires.1 in
     let commitments-size : length (take c.args.s.n c.args.figures.vs) ≡ c.args.s.n =
-        (lines-commitments c.args.s c.args.b.now c.args.d c.requires.0 commitments).size in
+    (lines-commitments c.args.s c.args.b.now c.args.d c.requires.0 commitments).size in
     sym commitments-size
 
 pub opened_at-requires : goal.opened_at-requires
 opened_at-requires c =
     let commitments : take c.args.s.n c.args.figures.vs ≡ commitments_of c.args.s c.args.b.now c.args.d =
-        commitments-are c.args.s c.args.b.now c.args.d c.requires.1 in
+    commitments-are c.args.s c.args.b.now c.args.d c.requires.1 in
     (c.requires.0.proper, lines-commitments c.args.s c.args.b.now c.args.d c.requires.0 commitments)
 
 pub slice_bounds-encrypted-end : goal.slice_bounds-encrypted-end
 slice_bounds-encrypted-end c =
     let encrypted : take c.args.s.n c.args.figures.encrypted ≡ encrypted_of c.args.s c.args.b.now c.args.d =
-        encrypted-are c.args.s c.args.b.now c.args.d c.requires.1 in
+    encrypted-are c.args.s c.args.b.now c.args.d c.requires.1 in
     let encrypted-size : length (take c.args.s.n c.args.figures.encrypted) ≡ c.args.s.n =
-        encrypted-count c.args.s c.args.b.now c.args.d encrypted in
+    encrypted-count c.args.s c.args.b.now c.args.d encrypted in
     full-taken _ _ encrypted-size
 
 pub slice_bounds-from_shares-end : goal.slice_bounds-from_shares-end
 slice_bounds-from_shares-end c =
     let encrypted : take c.args.s.n c.args.figures.encrypted ≡ encrypted_of c.args.s c.args.b.now c.args.d =
-        encrypted-are c.args.s c.args.b.now c.args.d c.requires.1 in
+    encrypted-are c.args.s c.args.b.now c.args.d c.requires.1 in
     let encrypted-size : length (take c.args.s.n c.args.figures.encrypted) ≡ c.args.s.n =
-        encrypted-count c.args.s c.args.b.now c.args.d encrypted in
+    encrypted-count c.args.s c.args.b.now c.args.d encrypted in
     sym encrypted-size
 
 pub from_shares-requires : goal.from_shares-requires
 from_shares-requires c =
     let encrypted : take c.args.s.n c.args.figures.encrypted ≡ encrypted_of c.args.s c.args.b.now c.args.d =
-        encrypted-are c.args.s c.args.b.now c.args.d c.requires.1 in
+    encrypted-are c.args.s c.args.b.now c.args.d c.requires.1 in
     (c.requires.0, encrypted)
 
 pub returns-then-not-opened_at : goal.returns-then-not-opened_at
 returns-then-not-opened_at c =
     let commitments : take c.args.s.n c.args.figures.vs ≡ commitments_of c.args.s c.args.b.now c.args.d =
-        commitments-are c.args.s c.args.b.now c.args.d c.requires.1 in
+    commitments-are c.args.s c.args.b.now c.args.d c.requires.1 in
     let opened : let a = c.args in c.opened_at.result ≡ is_opened a.s a.b.now a.d =
-        opened-told c.args.s c.args.b.now c.args.d c.find_opening-at.ensures commitments c.opened_at.ensures in
+    opened-told c.args.s c.args.b.now c.args.d c.find_opening-at.ensures commitments c.opened_at.ensures in
     let a = c.args in
     c.from_shares.ensures ∙ secret-shares a.s a.b.now a.d judges (failed opened c.if-not-opened_at.true-raw)
 
 pub record_at-requires : goal.record_at-requires
 record_at-requires c =
     let commitments : take c.args.s.n c.args.figures.vs ≡ commitments_of c.args.s c.args.b.now c.args.d =
-        commitments-are c.args.s c.args.b.now c.args.d c.requires.1 in
+    commitments-are c.args.s c.args.b.now c.args.d c.requires.1 in
     let opened : let a = c.args in c.opened_at.result ≡ is_opened a.s a.b.now a.d =
-        opened-told c.args.s c.args.b.now c.args.d c.find_opening-at.ensures commitments c.opened_at.ensures in
+    opened-told c.args.s c.args.b.now c.args.d c.find_opening-at.ensures commitments c.opened_at.ensures in
     let a = c.args in
     omega (arith, c.find_opening-at.ensures, opening-inside a.s a.b.now a.d (passed opened c.if-not-opened_at.false-raw))
 
@@ -82,9 +82,9 @@ power-requires c = c.requires.0.proper.proper.prime-p.above-one
 pub returns : goal.returns
 returns c =
     let commitments : take c.args.s.n c.args.figures.vs ≡ commitments_of c.args.s c.args.b.now c.args.d =
-        commitments-are c.args.s c.args.b.now c.args.d c.requires.1 in
+    commitments-are c.args.s c.args.b.now c.args.d c.requires.1 in
     let opened : let a = c.args in c.opened_at.result ≡ is_opened a.s a.b.now a.d =
-        opened-told c.args.s c.args.b.now c.args.d c.find_opening-at.ensures commitments c.opened_at.ensures in
+    opened-told c.args.s c.args.b.now c.args.d c.find_opening-at.ensures commitments c.opened_at.ensures in
     let a = c.args in
     let b = a.b.now in
     secret-opened a.s b a.d judges (passed opened c.if-not-opened_at.false-raw) c.power.ensures

@@ -20,7 +20,7 @@ returns-then-count-s c =
 pub judge_lines-judged-requires : goal.judge_lines-judged-requires
 judge_lines-judged-requires c =
     let formed : let a = c.args in FormedDealing a.s a.d a.ys.now c.lines_of-lines.result.now =
-        lines-formed c.args.s c.args.b.now c.args.d c.requires.0 c.requires.1 c.lines_of-lines.ensures.result_value c.record_count-count.ensures c.if-count-eq0.false c.if-count-s.false c.requires.2 in
+    lines-formed c.args.s c.args.b.now c.args.d c.requires.0 c.requires.1 c.lines_of-lines.ensures.result_value c.record_count-count.ensures c.if-count-eq0.false c.if-count-s.false c.requires.2 in
     let F = formed in
     (c.requires.0, F.dealer.1, F.keys-size, F.size)
 
