@@ -5,7 +5,7 @@ use files::read_or_empty;
 use std::io::{self, Write};
 
 // Each space has one byte more than the longest file that is not refused for its length.
-fn main(rt: HostRuntime) -> io::Result<()> {
+fn main(rt: HostRuntime) {
     let mut table = [0u8; 257];
     let mut set = [0u8; 33];
     let mut board = [0u8; 65537];
@@ -14,5 +14,5 @@ fn main(rt: HostRuntime) -> io::Result<()> {
     let b = read_or_empty(&rt, b"round.set", &mut set);
     let c = read_or_empty(&rt, b"board.bin", &mut board);
     let n = text::draw_text(&table[..a], &set[..b], &board[..c], &mut out);
-    io::writer(&rt).write_all(&out[0..n])
+    let _ = io::writer(&rt).write_all(&out[0..n]);
 }
