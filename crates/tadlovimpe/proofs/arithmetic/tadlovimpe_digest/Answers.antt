@@ -13,10 +13,16 @@ returns-in-Value c =
     let m = c.args.message.now in
     let o = sym (ap outcome_of c.in-Value.is) ∙ c.digest.ensures in
     let s = value-met (digest_checks m) (hash_value m) _ (sym o) in
-    (ap number_of o, c.write_record.ensures ∙ ap record_bytes (sym s.1) ∙ sym (if-met _ _ (digest_checks m) s.0))
+    record {
+      value = ap number_of o;
+      out_after = c.write_record.ensures ∙ ap record_bytes (sym s.1) ∙ sym (if-met _ _ (digest_checks m) s.0);
+    }
 
 pub returns-in-Refused : goal.returns-in-Refused
 returns-in-Refused c =
     let m = c.args.message.now in
     let o = sym (ap outcome_of c.in-Refused.is) ∙ c.digest.ensures in
-    (ap number_of o, sym (if-unmet _ _ (digest_checks m) _ ((refused-exactly Record (digest_checks m) (hash_value m) _).0 (sym o))))
+    record {
+      value = ap number_of o;
+      out_after = sym (if-unmet _ _ (digest_checks m) _ ((refused-exactly Record (digest_checks m) (hash_value m) _).0 (sym o)));
+    }

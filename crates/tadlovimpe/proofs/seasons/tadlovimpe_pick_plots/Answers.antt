@@ -4,4 +4,6 @@ use Rattle.tadlovimpe.specs.Figures.{number_of}
 use Rattle.tadlovimpe.proofs.seasons.tadlovimpe_pick_plots.Goals as goal
 
 pub returns : goal.returns
-returns c = let w = c.pick_plots.ensures in (c.number_of.ensures ∙ ap number_of w.0, w.1)
+returns c =
+    let w = c.pick_plots.ensures in
+    record { value = c.number_of.ensures ∙ ap number_of w.result_value; out_after = w.out_after }

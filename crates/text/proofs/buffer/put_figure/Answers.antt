@@ -1,7 +1,5 @@
 -- `put_figure` meets its contract: the digits are written behind the space.
-use mathlib.Core.Path.{◌∙◌}
 use native.Mathlib.Omega.{arith}
-use lib.ListN.{length-set}
 use Rattle.text.proofs.Decimals.{space-room, digits-room, figure-written}
 use Rattle.text.proofs.buffer.put_figure.Goals as goal
 

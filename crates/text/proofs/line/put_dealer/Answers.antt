@@ -1,8 +1,6 @@
 -- `put_dealer` meets its contract: the dealer's number, a space, the verdict and the line end are written one behind the other.
-use mathlib.Core.Path.{refl}
 use mathlib.Core.List.{List, [], ◌∷◌, ◌++◌}
 use Prim.Native.Nat.{ℕ}
-use native.Mathlib.Omega.{arith}
 use Rattle.text.specs.Text.{figure, new_line, dealer_word, verdict_text, dealer_line}
 use Rattle.text.proofs.Writing.{first-room, second-room, third-room, fourth-room, all-four}
 use Rattle.text.proofs.line.put_dealer.Goals as goal

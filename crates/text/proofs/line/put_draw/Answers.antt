@@ -1,5 +1,5 @@
 -- `put_draw` meets its contract: each case writes its line.
-use mathlib.Core.Path.{refl, ap}
+use mathlib.Core.Path.{ap}
 use mathlib.Core.List.{List}
 use Prim.Native.Nat.{ℕ}
 use Rattle.group.specs.Answer.{element_outcome_of}

@@ -1,8 +1,7 @@
 -- `put_line` meets its contract: the line end is written behind the word and the figure.
-use mathlib.Core.Path.{◌≡◌, refl, sym}
+use mathlib.Core.Path.{◌≡◌, sym}
 use mathlib.Core.List.{List, ◌++◌, append_assoc}
 use Prim.Native.Nat.{ℕ}
-use native.Mathlib.Omega.{arith}
 use Rattle.text.specs.Text.{figure, new_line}
 use Rattle.text.proofs.Writing.{room_as, written_as, room-first, room-rest, both}
 use Rattle.text.proofs.line.put_line.Goals as goal

@@ -1,8 +1,6 @@
 -- `put_round` meets its contract: the three figures and the line end are written one behind the other.
-use mathlib.Core.Path.{refl}
 use mathlib.Core.List.{List, ◌++◌}
 use Prim.Native.Nat.{ℕ}
-use native.Mathlib.Omega.{arith}
 use Rattle.sharing.specs.declared.Setting.{Setting}
 use Rattle.text.specs.Text.{figure, new_line, round_word, round_line}
 use Rattle.text.proofs.Writing.{first-room, second-room, third-room, fourth-room, all-four}

@@ -1,5 +1,5 @@
 -- `put_secret` meets its contract: each case writes its word, and its value where it has one.
-use mathlib.Core.Path.{refl, ap}
+use mathlib.Core.Path.{ap}
 use Rattle.text.specs.Text.{secret_text}
 use Rattle.text.proofs.Writing.{room_as, written_as}
 use Rattle.text.proofs.line.put_secret.Goals as goal

@@ -1,5 +1,5 @@
 -- `put_verdict` meets its contract: each case writes its word, with the number of a refusal or how the secret came.
-use mathlib.Core.Path.{refl, ap}
+use mathlib.Core.Path.{ap}
 use Rattle.text.specs.Text.{verdict_text}
 use Rattle.text.proofs.Writing.{room_as, written_as}
 use Rattle.text.proofs.line.put_verdict.Goals as goal

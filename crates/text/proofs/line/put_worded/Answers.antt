@@ -1,5 +1,4 @@
 -- `put_worded` meets its contract: the figure is written behind the word.
-use mathlib.Core.Path.{◌∙◌}
 use Rattle.text.specs.Text.{figure}
 use Rattle.text.proofs.Writing.{room-first, room-rest, both}
 use Rattle.text.proofs.line.put_worded.Goals as goal

@@ -1,8 +1,6 @@
 -- `put_report` meets its contract: the four parts are written one behind the other.
-use mathlib.Core.Path.{refl}
 use mathlib.Core.List.{List}
 use Prim.Native.Nat.{ℕ}
-use native.Mathlib.Omega.{arith}
 use Rattle.group.specs.Answer.{element_outcome_of}
 use Rattle.sharing.specs.declared.Setting.{Setting}
 use Rattle.verdicts.specs.declared.Judgement.{Judgement}
