@@ -15,7 +15,10 @@ import re
 import sys
 
 # Letters of the equations: y is a key, Y an encrypted share, Z a decrypted one.
-LETTERS = {"YOf": "Y_of", "ZOf": "Z_of", "YIn": "Y_in", "writtenY": "written_Y", "linesY": "lines_Y", "lineY": "line_Y"}
+# byRank would be named as a constructor beside it, which the port script turned.
+LETTERS = {"byRank": "rank_order", "YOf": "Y_of", "ZOf": "Z_of", "YIn": "Y_in", "writtenY": "written_Y", "linesY": "lines_Y", "lineY": "line_Y"}
+# Definitions of one file, and fields of a record of another, which no file names without its record.
+APART = {"at_zero", "in_order"}
 # Lemmas to which the port script gave the name that a definition comes to: they keep the dash that they had.
 LEMMAS = {"no_record": "no-record", "too_few": "too-few", "lines_end": "lines-end", "sums_at": "sums-at"}
 LEMMA = re.compile(r"(?<![\w.'-])(" + "|".join(LEMMAS) + r")(?![\w.'-])")
@@ -65,7 +68,7 @@ def main():
         taken[new] = old
     for p in antt():
         for m in DEFINED.finditer(read(p)):
-            if m[1] in taken:
+            if m[1] in taken and m[1] not in APART:
                 sys.exit(f"{p}: {taken[m[1]]} would fall together with {m[1]}")
     known = {m[1] for p in antt() for m in DEFINED.finditer(read(p))}
     changed = 0

@@ -1,6 +1,5 @@
 -- `verdicts_of` meets its contract. The loop's invariant: the first i places hold the figures of the first i places.
 use mathlib.Core.Path.{◌≡◌, refl, sym, ◌∙◌}
-use Prim.Native.Nat.{◌-◌}
 use native.Mathlib.Omega.{arith}
 use lib.ListN.{length-set}
 use Rattle.tadlovimpe.specs.Figures.{place_of}

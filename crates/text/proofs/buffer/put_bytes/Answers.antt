@@ -1,6 +1,6 @@
 -- `put_bytes` meets its contract: after i turns the first i bytes are written.
 use mathlib.Core.Path.{refl}
-use Prim.Native.Nat.{◌+◌, ◌-◌}
+use Prim.Native.Nat.{◌+◌}
 use native.Mathlib.Omega.{arith}
 use lib.ListN.{length-set}
 use Rattle.text.proofs.Writing.{written_none, next-byte, all-bytes}

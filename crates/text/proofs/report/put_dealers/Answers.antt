@@ -1,6 +1,6 @@
 -- `put_dealers` meets its contract: after i turns the lines of the first i dealers are written.
 use mathlib.Core.Path.{◌≡◌, refl, sym, ap}
-use Prim.Native.Nat.{ℕ, ◌-◌}
+use Prim.Native.Nat.{ℕ}
 use native.Mathlib.Omega.{arith}
 use Rattle.text.specs.Text.{dealer_lines}
 use Rattle.text.specs.Report.{verdicts_at}

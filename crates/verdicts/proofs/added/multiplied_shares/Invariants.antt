@@ -1,5 +1,5 @@
 -- `multiplied_shares` meets its contract. The loop's invariant: what is held are the products over the dealers above d.
-use Prim.Native.Nat.{◌-◌, ◌≤◌}
+use Prim.Native.Nat.{◌≤◌}
 use Rattle.verdicts.specs.Shares.{judges}
 use Rattle.verdicts.proofs.Products.{ProductsAbove}
 use Rattle.verdicts.proofs.added.multiplied_shares.Given as goal

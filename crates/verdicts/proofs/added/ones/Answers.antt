@@ -1,6 +1,5 @@
 -- `ones` meets its contract. The loop's invariant: the array holds 1 for the first i members, and 0 behind.
 use mathlib.Core.Path.{◌≡◌, refl}
-use Prim.Native.Nat.{◌-◌}
 use native.Mathlib.Omega.{arith}
 use borrow.Author.Rules.{rules}
 use Rattle.words.proofs.Lists.{filled_none}
