@@ -159,7 +159,7 @@ impl Side {
     }
 
     fn read_rattle(&mut self, tokens: &[String]) {
-        self.read_rust(tokens, &["no_mangle", "]", "pub", "extern", "\"C\"", "fn"]);
+        self.read_rust(tokens, &["no_mangle", ")", "]", "pub", "extern", "\"C\"", "fn"]);
         for (of, kind) in KINDS {
             for at in behind(tokens, &[of, ":", ":", kind]) {
                 let number = &tokens[next(tokens, at, "kind") + 1];
