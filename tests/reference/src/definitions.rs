@@ -78,7 +78,7 @@ impl Kind {
     fn layout(&self) -> Option<String> {
         let is_figure = |word: &&str| is_name(word) || *word == ROUND;
         let mut figures: Vec<&str> = self.words.into_iter().filter(is_figure).collect();
-        let mut first = format!("{}Kind", self.name);
+        let mut first = format!("{}_kind", self.name);
         if self.is_shared() {
             first = "kind".to_string();
             figures.insert(0, "kind");
@@ -86,7 +86,7 @@ impl Kind {
         let words = (1..).zip(self.words);
         let fields: String = words.map(|(k, word)| format!("; w{k} = {word}")).collect();
         let (name, figures) = (self.layout, figures.join(" "));
-        let layout = format!("{name}Layout {figures} = record {{ w0 = {first}{fields} }}\n");
+        let layout = format!("{name}_layout {figures} = record {{ w0 = {first}{fields} }}\n");
         (self.name == self.layout).then_some(layout)
     }
 
@@ -95,7 +95,7 @@ impl Kind {
         let (name, layout) = (self.name, self.layout);
         let mut figures = Vec::new();
         if self.is_shared() {
-            figures.push(format!("{name}Kind"));
+            figures.push(format!("{name}_kind"));
         }
         let of_layout = KINDS.iter().find(|kind| kind.name == layout);
         let named = of_layout.expect("a layout is of a kind").words;
@@ -103,7 +103,7 @@ impl Kind {
         let own = own.filter(|(named, _)| is_name(named)).map(|(_, own)| own);
         figures.extend(own.map(str::to_string));
         let (names, figures) = (self.names(), figures.join(" "));
-        format!("{name} {names} = recordBytes ({layout}Layout {figures} 0)\n")
+        format!("{name} {names} = record_bytes ({layout}_layout {figures} 0)\n")
     }
 }
 
@@ -147,31 +147,31 @@ pub fn text() -> String {
     } = &parts;
     let kinds = KINDS.iter();
     let mut text: String = kinds
-        .map(|kind| format!("{}Kind = {}\n", kind.name, kind.number))
+        .map(|kind| format!("{}_kind = {}\n", kind.name, kind.number))
         .collect();
     text.extend(KINDS.iter().filter_map(Kind::layout));
     text.extend(KINDS[..5].iter().map(Kind::bytes));
     for (name, records) in [
         ("keys", keys),
-        ("firstLines", first),
-        ("uncarriedLines", uncarried),
-        ("secondLines", second),
+        ("first_lines", first),
+        ("uncarried_lines", uncarried),
+        ("second_lines", second),
     ] {
         text += &format!("{name} = {}\n", terms(records));
     }
-    text += "boardOf first behind = keys ++ (first ++ (secondLines ++ behind))\n";
+    text += "board_of first behind = keys ++ (first ++ (second_lines ++ behind))\n";
     text.extend(boards.iter().map(board));
     text
 }
 
 fn board(board: &Board) -> String {
     let first = if board.is_carried {
-        "firstLines"
+        "first_lines"
     } else {
-        "uncarriedLines"
+        "uncarried_lines"
     };
     let (name, behind) = (board.definition, terms(&board.behind));
-    format!("{name} = boardOf {first} ({behind})\n")
+    format!("{name} = board_of {first} ({behind})\n")
 }
 
 #[cfg(test)]
@@ -197,20 +197,20 @@ mod tests {
     fn every_definition_on_a_line() {
         let text = text();
         assert_eq!(text.lines().count(), 6 + 5 + 5 + 4 + 1 + 7);
-        let opened = "openedBoard = boardOf firstLines (opening 1 3 ++ opening 2 6)\n";
+        let opened = "opened_board = board_of first_lines (opening 1 3 ++ opening 2 6)\n";
         assert!(text.contains(opened));
-        assert!(text.contains("openingLayout d u round = record { w0 = openingKind; w1 = d; w2 = 0; w3 = u; w4 = 0; w5 = 0; w6 = 0; w7 = round }\n"));
-        assert!(text.contains("setLayout g n t round first = record { w0 = setKind; w1 = g; w2 = n; w3 = t; w4 = round; w5 = first; w6 = 0; w7 = 0 }\n"));
-        assert!(text.contains("opening d u = recordBytes (openingLayout d u 0)\n"));
+        assert!(text.contains("opening_layout d u round = record { w0 = opening_kind; w1 = d; w2 = 0; w3 = u; w4 = 0; w5 = 0; w6 = 0; w7 = round }\n"));
+        assert!(text.contains("set_layout g n t round first = record { w0 = set_kind; w1 = g; w2 = n; w3 = t; w4 = round; w5 = first; w6 = 0; w7 = 0 }\n"));
+        assert!(text.contains("opening d u = record_bytes (opening_layout d u 0)\n"));
     }
 
     #[test]
     fn one_layout_of_both_shares() {
         let text = text();
-        assert!(text.contains("openingKind = 3\nshareKind = 4\naddedKind = 5\nsetKind = 9\n"));
-        assert!(text.contains("\nshareLayout kind d i Z c r round = record { w0 = kind; w1 = d; w2 = i; w3 = Z; w4 = c; w5 = r; w6 = 0; w7 = round }\nsetLayout "));
-        let share = "share d i Z c r = recordBytes (shareLayout shareKind d i Z c r 0)\n";
-        let added = "added i Z c r = recordBytes (shareLayout addedKind 0 i Z c r 0)\n";
+        assert!(text.contains("opening_kind = 3\nshare_kind = 4\nadded_kind = 5\nset_kind = 9\n"));
+        assert!(text.contains("\nshare_layout kind d i Z c r round = record { w0 = kind; w1 = d; w2 = i; w3 = Z; w4 = c; w5 = r; w6 = 0; w7 = round }\nset_layout "));
+        let share = "share d i Z c r = record_bytes (share_layout share_kind d i Z c r 0)\n";
+        let added = "added i Z c r = record_bytes (share_layout added_kind 0 i Z c r 0)\n";
         assert!(text.contains(&[share, added].concat()));
     }
 }

@@ -115,13 +115,13 @@ fn added_shares(members: &Members, parts: &Parts) -> [Record; 3] {
 
 /// The names of the boards' files and of their definitions.
 const NAMES: [(&str, &str); 7] = [
-    ("opened.bin", "openedBoard"),
-    ("silent.bin", "silentBoard"),
-    ("forged.bin", "forgedBoard"),
-    ("uncarried-low.bin", "uncarriedLow"),
-    ("uncarried-high.bin", "uncarriedHigh"),
-    ("added.bin", "addedBoard"),
-    ("forged-added.bin", "forgedAdded"),
+    ("opened.bin", "opened_board"),
+    ("silent.bin", "silent_board"),
+    ("forged.bin", "forged_board"),
+    ("uncarried-low.bin", "uncarried_low"),
+    ("uncarried-high.bin", "uncarried_high"),
+    ("added.bin", "added_board"),
+    ("forged-added.bin", "forged_added"),
 ];
 
 /// Three boards with dealer 1's polynomial: he has opened; he is silent, and members 1 and 2 open their shares of his
