@@ -1,7 +1,7 @@
 #!/usr/bin/env python3
 """Brings the repository's own definitions to snake case, as the port script leaves them: verdictOf -> verdict_of.
 
-usage: python3 tools/respell.py        at the top of the repository, once, after /opt/rattle/port/port.py
+usage: python3 tools/respell.py        at the top of the repository, once, after the kit's port.py
 
 A definition whose name begins with a small letter and has capitals gets dashes below in their place; letters of the published equations
 that differ by their size alone keep it, as Y, the encrypted share, beside y, the key. Types, facts and modules keep their capitals, and

@@ -1,5 +1,5 @@
 -- FIPS 180-4, sections 3.2 and 4.1.2: operations on words of 32 bits, and the six functions of SHA-256.
--- Signs and names are the standard's, but for & (its ∧), bitOr (its ∨) and ⊞ (its +).
+-- Signs and names are the standard's, but for & (its ∧), bit_or (its ∨) and ⊞ (its +).
 use Rattle.std.specs.Prelude.{ℕ, ◌+◌, ◌-◌, ◌*◌, ◌/◌, ◌%◌, ◌^◌, bit_and, bit_or, bit_xor}
 
 -- 3.2, operation 1: bitwise and
