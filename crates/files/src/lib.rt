@@ -2,7 +2,8 @@
 //
 // What is assumed, and nothing proves, is what the kit says of the system's calls, which std makes: each returns and touches nothing but
 // what it is lent, and a read answers an error or a count of at most the bytes that it was lent. No contract says what bytes a file or an
-// argument holds. The last lines of a program's check name the calls that it makes, and count them.
+// argument holds. The last lines of a program's check count the contracts that come with std's files, which are more than the program's
+// calls, and name the first of them.
 #![tactic(auto)]
 
 ghost use Rattle.io.specs.Counts.{IsPrefixLen};
@@ -45,7 +46,7 @@ fn fill<F: Read>(file: &mut F, space: &mut [u8]) -> usize
     done
 }
 
-// Reads a file from its start, as far as `space` goes. One that cannot be opened is missing, and `space` is kept.
+// Reads a file from its start, as far as `space` goes. One that cannot be opened, or whose path is no UTF-8, is missing, and `space` is kept.
 pub fn read_file<R: Files>(rt: &R, path: &[u8], space: &mut [u8]) -> FileAnswer
     ensures { Answered result space.old space.new }
 {
