@@ -1,12 +1,16 @@
 -- The turns of the loop over a chain's links: what the checks from the link i on give, by those of the link i and those from the next on.
 use mathlib.Core.Path.{◌≡◌, refl, sym, ap, ◌∙◌}
+use mathlib.Core.Bool.{Bool, true, false, ◌&&◌}
 use mathlib.Core.List.{List, ◌++◌}
 use Prim.Native.Nat.{ℕ, zero, suc, ◌+◌, ◌-◌, ◌<◌, ◌≤◌}
 use native.Mathlib.Omega.{arith}
+use borrow.Author.Tests.{le-ltb, ne_eqb}
+use lib.Dec.{ltb, eqb}
 use Rattle.words.specs.Checks.{Check, refusal, Numbered}
 use Rattle.words.specs.declared.Record.{Record}
 use Rattle.words.proofs.Lists.{All-append}
-use Rattle.words.proofs.Checks.{numbered}
+use Rattle.words.proofs.Checks.{numbered, none-exactly}
+use Rattle.words.proofs.Tests.{pick-false}
 use Rattle.words.proofs.Stages.{stage-number, stage-met, rest-number}
 use Rattle.group.specs.Table.{groups_of, table_checks}
 use Rattle.group.specs.declared.Group.{Group}
@@ -72,3 +76,24 @@ module _ (Gs : List Group) (b : List ℕ) (m i : ℕ) where
 
   pub links-passed : m ≤ i → refusal_from Gs b m i ≡ 0
   links-passed h = let e : m - i ≡ 0 = omega arith in ap (λ (k : ℕ). refusal (links_checks Gs b i k)) e
+
+-- ---- an extension of a chain that is not refused
+module _ (T b : List ℕ) (number v room : ℕ) (z : refusal (chain_checks T b) ≡ 0) where
+  behind-chain : refusal (extend_checks T b number v room) ≡ refusal (next_checks (groups_of T) b number v room)
+  unfolding extend_checks
+  behind-chain =
+      let met = (none-exactly (chain_checks T b) (chain-numbered T b)).0 z in
+      sym (rest-number (chain_checks T b) (next_checks (groups_of T) b number v room) met)
+
+  without-room : (ltb (links_in b) 1024 && eqb room 64) ≡ false → refusal (extend_checks T b number v room) ≡ 3
+  without-room f = behind-chain ∙ pick-false _ _ 3 f
+
+  pub full_refused : 1024 ≤ links_in b → refusal (extend_checks T b number v room) ≡ 3
+  full_refused h = without-room (ap (λ (x : Bool). x && eqb room 64) (le-ltb (links_in b) 1024 h))
+
+  pub room_refused : (room ≡ 64 → ⊥) → refusal (extend_checks T b number v room) ≡ 3
+  room_refused n = without-room (last-false (ltb (links_in b) 1024) (ne_eqb room 64 n))
+    where
+      last-false : (x : Bool) {y : Bool} → y ≡ false → (x && y) ≡ false
+      last-false true e = e
+      last-false false e = refl

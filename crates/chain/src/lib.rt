@@ -78,6 +78,7 @@ pub fn judge_chain(table: &[u8], b: &[u8]) -> CheckAnswer
 
 // What an extension is refused by: what table and chain are refused by; 3 a full chain, or not the room of one link; 1 and 6 the draw value.
 // 0 where it is not.
+#[tactic(auto, using(crate::proofs::Steps::full_refused, crate::proofs::Steps::room_refused))]
 fn extend_refusal(table: &[u8], b: &[u8], number: u32, value: Element, room: usize) -> u32
     ensures { result ≡ refusal (extend_checks table.now b.now number value.0 room) }
 {

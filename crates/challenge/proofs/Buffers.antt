@@ -14,7 +14,7 @@ use Rattle.words.specs.Choice.{pick}
 use Rattle.words.specs.Bytes.{word_bytes, words_bytes, put_at}
 use Rattle.words.proofs.Lists.{up-length, up-last}
 use Rattle.words.proofs.Tests.{pick_true, pick-false}
-use Rattle.words.proofs.Bytes.{word-length, words-length, put-length, put-take, put_byte, put-put}
+use Rattle.words.proofs.Bytes.{word-length, words-length, put-length, put-take, put-none, put_byte, put-put}
 use Rattle.sharing.specs.Setting.{members}
 use Rattle.sharing.specs.declared.Setting.{Setting}
 use Rattle.challenge.specs.Message.{coefficient_tag, round_bytes, head_bytes, message, bytes_over, coefficient_message}
@@ -85,6 +85,13 @@ module _ (round : ℕ) where
   pub round-some : (round ≡ 0 → ⊥) → round_bytes round ≡ word_bytes round
   unfolding round_bytes
   round-some e = pick-false (eqb round 0) [] (word_bytes round) (ne_eqb round 0 e)
+
+  -- in round 0 nothing is put
+  pub no_round_length : round ≡ 0 → length (round_bytes round) ≡ 0
+  no_round_length e = ap length (round-none e)
+
+  pub no_round_put : (at : ℕ) (m : List ℕ) → round ≡ 0 → put_at at (round_bytes round) m ≡ m
+  no_round_put at m e = ap (λ (bs : List ℕ). put_at at bs m) (round-none e) ∙ put-none at m
 
   pub round-length : length (round_bytes round) ≤ 4
   unfolding round_bytes

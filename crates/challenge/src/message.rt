@@ -33,6 +33,7 @@ fn challenge(s: Setting, m: &[u8], k: usize) -> Exponent
 }
 
 // Writes the round's number from `at` on, nothing in round 0, and answers where it ends. Internal: callers ensure room for it.
+#[tactic(auto, using(crate::proofs::Buffers::no_round_length, crate::proofs::Buffers::no_round_put))]
 fn put_round(m: &mut [u8], at: usize, round: u32) -> usize
     requires { at + 4 ≤ length m.old }
     ensures { (result ≡ at + length (round_bytes round)) × (m.new ≡ put_at at (round_bytes round) m.old) }

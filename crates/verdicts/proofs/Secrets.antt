@@ -109,6 +109,11 @@ module _ (J : Judges) {S : Setting} {b : List ℕ} {F : ShareForm} {Ys : List �
         (λ j. value (record { 0 = (f ∙ (λ k. recovered S.group (members-are k) (shares-are k))) j }))
         ∙ sym (pick_true (leb S.t (length shares)) _ _ (le-leb _ _ (all-taken S.t shares (omega (arith, count-is)))))
 
+-- the same without the name of what is found
+pub few_refused : (J : Judges) {S : Setting} {b : List ℕ} {F : ShareForm} {Ys : List ℕ} → SharesOn S b F Ys → (lowest_in J S b F Ys).count < S.t
+    → from_lowest S b (shares_in J S b F Ys) ≡ refused 13
+few_refused J L h = sym (found-few J L refl h)
+
 -- ---- the opening
 -- for n elements its figure and its equation decide
 opening-decided : (S : Setting) (vs : List ℕ) (u : ℕ) → Commitments S vs → is_value (opening_in S vs u) ≡ is_exponent S.group u && is_opening S vs u

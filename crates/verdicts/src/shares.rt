@@ -90,6 +90,7 @@ fn lowest_shares(s: Setting, form: ShareForm, b: &[u8], encrypted: &[u32]) -> Ga
 
 // What the t lowest members with accepted shares recover, refused by 13 where there are fewer.
 // Internal: callers ensure that verdicts are reached, and that each member has an encrypted share.
+#[tactic(auto, using(crate::proofs::Secrets::few_refused))]
 pub(crate) fn from_lowest(s: Setting, form: ShareForm, b: &[u8], encrypted: &[u32]) -> ElementAnswer
     requires { SharesOn s b.now form encrypted.now }
     ensures { element_outcome_of result ≡ from_lowest s b.now (shares_in judges s b.now form encrypted.now) }

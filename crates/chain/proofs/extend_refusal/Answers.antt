@@ -1,18 +1,17 @@
 -- `extend_refusal` meets its contract: the chain decides, then the test that failed, then the draw value.
 use mathlib.Core.Path.{◌≡◌, sym, ap, ◌∙◌}
-use mathlib.Core.Bool.{Bool, false, ◌&&◌}
+use mathlib.Core.Bool.{Bool, ◌&&◌}
 use Prim.Native.Nat.{ℕ, ◌<◌}
 use native.Mathlib.Omega.{arith}
-use borrow.Author.Tests.{lt-ltb, le-ltb, eq-eqb, ne_eqb}
+use borrow.Author.Tests.{lt-ltb, eq-eqb}
 use lib.Dec.{ltb, eqb}
 use Rattle.words.specs.Checks.{refusal}
-use Rattle.words.proofs.Tests.{pick_true, pick-false}
+use Rattle.words.proofs.Tests.{pick_true}
 use Rattle.words.proofs.Checks.{none-exactly}
 use Rattle.words.proofs.Stages.{stage-number, rest-number}
 use Rattle.group.specs.Table.{groups_of}
-use Rattle.chain.specs.Chain.{links_in, chain_checks, next_checks, extend_checks}
+use Rattle.chain.specs.Chain.{chain_checks, next_checks, extend_checks}
 use Rattle.chain.proofs.Steps.{chain-numbered}
-use Rattle.chain.proofs.extend_refusal.Goals.{then-links-ge1024-via-then-links-ge1024, then-links-ge1024-via-else-links-ge1024+then-room-ne64}
 use Rattle.chain.proofs.extend_refusal.Goals as goal
 
 pub returns-then-refused-ne0 : goal.returns-then-refused-ne0
@@ -25,22 +24,6 @@ returns-then-refused-ne0 c =
 more : (room : ℕ) {m n : ℕ} {b : Bool} → m ≡ n → m < 1024 → eqb room 64 ≡ b → (ltb n 1024 && eqb room 64) ≡ b
 more room {n = n} e h f = ap (λ (b : Bool). b && eqb room 64) (lt-ltb n 1024 (omega (arith, e))) ∙ f
 
-pub returns-then-links-ge1024 : goal.returns-then-links-ge1024
-unfolding extend_checks
-returns-then-links-ge1024 c =
-    let left : let a = c.args in refusal (next_checks (groups_of a.table.now) a.b.now a.number a.value.0 a.room) ≡ refusal (extend_checks a.table.now a.b.now a.number a.value.0 a.room) =
-    let a = c.args in
-    let cs = chain_checks a.table.now a.b.now in
-    let m = (none-exactly cs (chain-numbered a.table.now a.b.now)).0 (sym c.chain_refusal-refused.ensures ∙ c.if-refused-ne0.false) in
-    rest-number cs (next_checks (groups_of a.table.now) a.b.now a.number a.value.0 a.room) m in
-    let a = c.args in
-    let f : (ltb (links_in a.b.now) 1024 && eqb a.room 64) ≡ false =
-    elim c.then-links-ge1024.branch [
-      | then-links-ge1024-via-then-links-ge1024 w ↦ ap (λ (b : Bool). b && eqb a.room 64) (le-ltb (links_in a.b.now) 1024 (omega (arith, c.links.ensures, w.if-links-ge1024.true)))
-      | then-links-ge1024-via-else-links-ge1024+then-room-ne64 w ↦ more a.room c.links.ensures w.if-links-ge1024.false (ne_eqb _ 64 w.if-room-ne64.true)
-    ] in
-    sym (pick-false _ _ 3 f) ∙ left
-
 pub returns : goal.returns
 unfolding extend_checks
 returns c =
@@ -49,5 +32,5 @@ returns c =
     let cs = chain_checks a.table.now a.b.now in
     let m = (none-exactly cs (chain-numbered a.table.now a.b.now)).0 (sym c.chain_refusal-refused.ensures ∙ c.if-refused-ne0.false) in
     rest-number cs (next_checks (groups_of a.table.now) a.b.now a.number a.value.0 a.room) m in
-    let f = more c.args.room c.links.ensures c.if-links-ge1024.false (eq-eqb _ 64 c.if-room-ne64.false) in
+    let f = more c.args.room c.links.ensures (omega arith) (eq-eqb _ 64 c.if-room-ne64.false) in
     c.value_refusal.ensures ∙ sym (pick_true _ _ 3 f) ∙ left

