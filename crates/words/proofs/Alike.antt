@@ -1,16 +1,17 @@
--- Lists of checks that test the same one by one, and have other numbers only where a test holds: they answer the same.
+-- Lists of checks that test the same one by one, and refuse by another only where a test holds: they answer the same.
 use mathlib.Core.Path.{◌≡◌, refl, ap, ◌∙◌}
 use mathlib.Core.Bool.{Bool, true, false}
 use mathlib.Core.List.{List, [], ◌∷◌, ◌++◌}
 use Rattle.words.specs.Choice.{pick}
-use Rattle.words.specs.Checks.{Check, refused, outcome}
+use Rattle.words.specs.Checks.{Check, outcome}
+use Rattle.std.specs.Prelude.{Err}
 use Rattle.words.proofs.Tests.{pick_true, pick-false}
 
 abbrev pub Alike : List Check → List Check → Type 0
 Alike [] [] = Unit
 Alike [] (d ∷ ds) = ⊥
 Alike (c ∷ cs) [] = ⊥
-Alike (c ∷ cs) (d ∷ ds) = (c.met ≡ d.met) × (d.met ≡ false → c.number ≡ d.number) × Alike cs ds
+Alike (c ∷ cs) (d ∷ ds) = (c.met ≡ d.met) × (d.met ≡ false → c.by ≡ d.by) × Alike cs ds
 
 alike_same : (cs : List Check) → Alike cs cs
 alike_same [] = tt
@@ -38,4 +39,4 @@ alike-outcome [] [] a k = refl
 alike-outcome [] (d ∷ ds) a k = absurd k
 alike-outcome (c ∷ cs) [] a k = absurd k
 alike-outcome (c ∷ cs) (d ∷ ds) a k =
-    chosen c.met d.met _ _ _ _ k.0 (alike-outcome cs ds a k.2) (λ e. ap refused (k.1 e))
+    chosen c.met d.met _ _ _ _ k.0 (alike-outcome cs ds a k.2) (λ e. ap Err (k.1 e))

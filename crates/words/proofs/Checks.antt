@@ -1,5 +1,5 @@
--- The laws of checks in their order. All go through two facts of which one holds of every list of checks: every check is met, or the first that is not has a number k.
--- Each fact settles the choice, the number refused and the outcome; so the number and the outcome tell which fact holds.
+-- The laws of checks in their order. All go through two facts of which one holds of every list of checks: every check is met, or the first
+-- that is not refuses by some k. Each fact settles the choice, the number and the outcome; so the number and the outcome tell which holds.
 use mathlib.Core.Path.{◌≡◌, refl, sym, ap, ◌∙◌, subst}
 use mathlib.Core.Bool.{Bool, true, false}
 use mathlib.Core.List.{List, [], ◌∷◌}
@@ -10,8 +10,12 @@ use borrow.Author.Tests.{ltb-true}
 use lib.Dec.{ltb}
 use Rattle.words.specs.Choice.{pick}
 use Rattle.words.specs.Lists.{All, all}
-use Rattle.words.specs.Checks.{Check, Outcome, value, refused, is_value, refusal, outcome, Met, FirstUnmet, Numbered, if_met}
+use Rattle.std.specs.Prelude.{Ok, Err, is_ok}
+use Rattle.words.specs.declared.refusal.Refusal.{Refusal}
+use Rattle.words.specs.Numbers.{number}
+use Rattle.words.specs.Checks.{Check, Outcome, refusal, outcome, Met, FirstUnmet, if_met}
 use Rattle.words.specs.Claims.{ValueExactly, RefusedExactly, NoneExactly, FirstExactly, ChosenMet, ChosenUnmet}
+use Rattle.words.proofs.NumberLaws.{positive, one-number}
 use Rattle.words.proofs.Lists.{All-to}
 use Rattle.words.proofs.Tests.{false-true, all_true, pick_true, pick-false}
 
@@ -32,66 +36,61 @@ pub met-none : (cs : List Check) → Met cs → refusal cs ≡ 0
 met-none [] m = refl
 met-none (c ∷ cs) m = pick_true c.met _ _ m.0 ∙ met-none cs m.1
 
-pub first-number : (cs : List Check) (k : ℕ) → FirstUnmet k cs → refusal cs ≡ k
+pub first-number : (cs : List Check) (k : Refusal) → FirstUnmet k cs → refusal cs ≡ number k
 first-number [] k u = absurd u
 first-number (c ∷ cs) k u =
     ⊎_elim
-    (λ w. pick-false c.met _ _ w.0 ∙ w.1)
+    (λ w. pick-false c.met _ _ w.0 ∙ ap number w.1)
     (λ w. pick_true c.met _ _ w.0 ∙ first-number cs k w.1)
     u
 
 module _ {A : Type 0} where
-  met-value : (cs : List Check) (a : A) → Met cs → outcome cs a ≡ value a
+  met-value : (cs : List Check) (a : A) → Met cs → outcome cs a ≡ Ok a
   met-value [] a m = refl
   met-value (c ∷ cs) a m = pick_true c.met _ _ m.0 ∙ met-value cs a m.1
 
-  first-refused : (cs : List Check) (a : A) (k : ℕ) → FirstUnmet k cs → outcome cs a ≡ refused k
+  first-refused : (cs : List Check) (a : A) (k : Refusal) → FirstUnmet k cs → outcome cs a ≡ Err k
   first-refused [] a k u = absurd u
   first-refused (c ∷ cs) a k u =
       ⊎_elim
-      (λ w. pick-false c.met _ _ w.0 ∙ ap refused w.1)
+      (λ w. pick-false c.met _ _ w.0 ∙ ap Err w.1)
       (λ w. pick_true c.met _ _ w.0 ∙ first-refused cs a k w.1)
       u
 
 -- ---- which of the two facts holds
-pub decided : (cs : List Check) → Met cs ⊎ ((k : ℕ) × FirstUnmet k cs)
+pub decided : (cs : List Check) → Met cs ⊎ ((k : Refusal) × FirstUnmet k cs)
 decided [] = inl tt
 decided (c ∷ cs) = split c.met refl (decided cs)
   where
-    split : (b : Bool) → c.met ≡ b → Met cs ⊎ ((k : ℕ) × FirstUnmet k cs) → Met (c ∷ cs) ⊎ ((k : ℕ) × FirstUnmet k (c ∷ cs))
+    split : (b : Bool) → c.met ≡ b → Met cs ⊎ ((k : Refusal) × FirstUnmet k cs) → Met (c ∷ cs) ⊎ ((k : Refusal) × FirstUnmet k (c ∷ cs))
     split true e d = ⊎_elim (λ m. inl (e, m)) (λ u. inr (u.0, inr (e, u.1))) d
-    split false e d = inr (c.number, inl (e, refl))
+    split false e d = inr (c.by, inl (e, refl))
 
-pub first-numbered : (cs : List Check) (k : ℕ) → Numbered cs → FirstUnmet k cs → 0 < k
-first-numbered [] k n u = absurd u
-first-numbered (c ∷ cs) k n u = ⊎_elim (λ w. subst (λ (i : ℕ). 0 < i) w.1 n.0) (λ w. first-numbered cs k n.1 w.1) u
+value-refused : {A : Type 0} {a : A} {k : Refusal} → ◌≡◌ {A = Outcome A} (Ok a) (Err k) → ⊥
+value-refused e = cc
 
-value-refused : {A : Type 0} {a : A} {k : ℕ} → value a ≡ refused k → ⊥
-value-refused e = let z : ◌≡◌ {A = ℕ} 0 1 = cc in omega arith
-
-pub value-met : {A : Type 0} (cs : List Check) (a b : A) → outcome cs a ≡ value b → Met cs × (a ≡ b)
+pub value-met : {A : Type 0} (cs : List Check) (a b : A) → outcome cs a ≡ Ok b → Met cs × (a ≡ b)
 value-met cs a b e =
     ⊎_elim
     (λ m. (m, let v = met-value cs a m in cc))
     (λ u. absurd (value-refused (sym e ∙ first-refused cs a u.0 u.1)))
     (decided cs)
 
-refused-first : {A : Type 0} (cs : List Check) (a : A) (k : ℕ) → outcome cs a ≡ refused k → FirstUnmet k cs
+refused-first : {A : Type 0} (cs : List Check) (a : A) (k : Refusal) → outcome cs a ≡ Err k → FirstUnmet k cs
 refused-first cs a k e =
     ⊎_elim
     (λ m. absurd (value-refused (sym (met-value cs a m) ∙ e)))
-    (λ u. let r = first-refused cs a u.0 u.1 in let s : u.0 ≡ k = cc in subst (λ (i : ℕ). FirstUnmet i cs) s u.1)
+    (λ u. let r = first-refused cs a u.0 u.1 in let s : u.0 ≡ k = cc in subst (λ (i : Refusal). FirstUnmet i cs) s u.1)
     (decided cs)
 
-none-met : (cs : List Check) → Numbered cs → refusal cs ≡ 0 → Met cs
-none-met cs n e =
-    ⊎_elim (λ m. m) (λ u. absurd (omega (arith, first-number cs u.0 u.1, first-numbered cs u.0 n u.1))) (decided cs)
+none-met : (cs : List Check) → refusal cs ≡ 0 → Met cs
+none-met cs e = ⊎_elim (λ m. m) (λ u. absurd (omega (arith, first-number cs u.0 u.1, positive u.0))) (decided cs)
 
-number-first : (cs : List Check) (k : ℕ) → 0 < k → refusal cs ≡ k → FirstUnmet k cs
-number-first cs k h e =
+number-first : (cs : List Check) (k : Refusal) → refusal cs ≡ number k → FirstUnmet k cs
+number-first cs k e =
     ⊎_elim
-    (λ m. absurd (omega (arith, met-none cs m)))
-    (λ u. subst (λ (i : ℕ). FirstUnmet i cs) (sym (first-number cs u.0 u.1) ∙ e) u.1)
+    (λ m. absurd (omega (arith, met-none cs m, positive k)))
+    (λ u. subst (λ (i : Refusal). FirstUnmet i cs) (one-number u.0 k (sym (first-number cs u.0 u.1) ∙ e)) u.1)
     (decided cs)
 
 -- ---- the claims
@@ -102,22 +101,18 @@ pub refused-exactly : RefusedExactly
 refused-exactly A cs a k = (refused-first cs a k, first-refused cs a k)
 
 pub none-exactly : NoneExactly
-none-exactly cs n = (none-met cs n, met-none cs)
+none-exactly cs = (none-met cs, met-none cs)
 
 pub first-exactly : FirstExactly
-first-exactly cs k h = (number-first cs k h, first-number cs k)
-
--- of checks that are written out, it computes that no number is 0
-pub numbered : (cs : List Check) → all (λ c. ltb 0 c.number) cs ≡ true → Numbered cs
-numbered cs e = All-to cs (λ c s. ltb-true 0 c.number s) (all_true (λ c. ltb 0 c.number) cs e)
+first-exactly cs k = (number-first cs k, first-number cs k)
 
 -- ---- a value or none
-pub is-value : {A : Type 0} (o : Outcome A) → is_value o ≡ true → (a : A) × (o ≡ value a)
-is-value (value a) e = (a, refl)
-is-value (refused k) e = absurd (false-true e)
+pub is-value : {A : Type 0} (o : Outcome A) → is_ok o ≡ true → (a : A) × (o ≡ Ok a)
+is-value (Ok a) e = (a, refl)
+is-value (Err k) e = absurd (false-true e)
 
-pub not-value : {A : Type 0} {o : Outcome A} {a : A} → is_value o ≡ false → o ≡ value a → ⊥
-not-value e f = false-true (sym e ∙ ap is_value f)
+pub not-value : {A : Type 0} {o : Outcome A} {a : A} → is_ok o ≡ false → o ≡ Ok a → ⊥
+not-value e f = false-true (sym e ∙ ap is_ok f)
 
 -- whatever the checks, what is chosen by them has a property that both have
 pub either_way : {A : Type 0} (P : A → Type 0) (cs : List Check) (a b : A) → (Met cs → P a) → P b → P (if_met cs a b)
@@ -128,10 +123,10 @@ either_way P (c ∷ cs) a b f p = split c.met (λ e. either_way P cs a b (λ m. 
     split true g = g refl
     split false g = p
 
--- no check has the number k: nothing is refused by it
-pub never-among : {A : Type 0} (cs : List Check) (a : A) (k : ℕ) → All (λ (c : Check). c.number ≡ k → ⊥) cs → outcome cs a ≡ refused k → ⊥
+-- no check refuses by k: nothing is refused by it
+pub never-among : {A : Type 0} (cs : List Check) (a : A) (k : Refusal) → All (λ (c : Check). c.by ≡ k → ⊥) cs → outcome cs a ≡ Err k → ⊥
 never-among {A} cs a k n e = among cs n ((refused-exactly A cs a k).0 e)
   where
-    among : (cs : List Check) → All (λ (c : Check). c.number ≡ k → ⊥) cs → FirstUnmet k cs → ⊥
+    among : (cs : List Check) → All (λ (c : Check). c.by ≡ k → ⊥) cs → FirstUnmet k cs → ⊥
     among [] n u = u
     among (c ∷ cs) n u = ⊎_elim (λ w. n.0 w.1) (λ w. among cs n.1 w.1) u

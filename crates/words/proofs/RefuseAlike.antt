@@ -4,20 +4,21 @@ use mathlib.Core.Bool.{Bool, true, false}
 use mathlib.Core.List.{List, [], ◌∷◌, ◌++◌, append-nil}
 use mathlib.Core.Logic.{⊎_elim}
 use Rattle.words.specs.Choice.{pick}
-use Rattle.words.specs.Checks.{Check, Outcome, value, refused, outcome, Met, if_met}
+use Rattle.words.specs.Checks.{Check, Outcome, outcome, Met, if_met}
+use Rattle.std.specs.Prelude.{Ok, Err}
 use Rattle.words.proofs.Checks.{decided, value-met, value-exactly, refused-exactly}
 use Rattle.words.proofs.Stages.{rest-outcome, front-outcome}
 
 -- the choice by checks is read off their outcome
 abbrev value_or : {A : Type 0} → Outcome A → A → A
-value_or (value a) x = a
-value_or (refused k) x = x
+value_or (Ok a) x = a
+value_or (Err k) x = x
 
 choice-outcome : {A : Type 0} (cs : List Check) (a x : A) → if_met cs a x ≡ value_or (outcome cs a) x
 choice-outcome [] a x = refl
 choice-outcome {A} (c ∷ cs) a x = split c.met (choice-outcome cs a x)
   where
-    split : (t : Bool) → if_met cs a x ≡ value_or (outcome cs a) x → pick t (if_met cs a x) x ≡ value_or (pick t (outcome cs a) (refused c.number)) x
+    split : (t : Bool) → if_met cs a x ≡ value_or (outcome cs a) x → pick t (if_met cs a x) x ≡ value_or (pick t (outcome cs a) (Err c.by)) x
     split true e = e
     split false e = refl
 
@@ -39,7 +40,7 @@ module _ (cs ds : List Check) (e : outcome cs tt ≡ outcome ds (tt {0})) where
   pub same-value : {A : Type 0} (a c : A) → (Met cs → a ≡ c) → outcome cs a ≡ outcome ds c
   same-value a c h =
       sym (ap (λ (l : List Check). outcome l a) (append-nil cs))
-      ∙ same-behind [] [] a c (λ m. ap value (h m))
+      ∙ same-behind [] [] a c (λ m. ap Ok (h m))
       ∙ ap (λ (l : List Check). outcome l c) (append-nil ds)
 
   pub same-choice : {A : Type 0} (a c x : A) → (Met cs → a ≡ c) → if_met cs a x ≡ if_met ds c x

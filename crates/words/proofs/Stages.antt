@@ -1,5 +1,5 @@
 -- Checks that run in stages: a stage that refuses settles what the whole list answers, one that is met leaves it to the rest.
--- A stage is told by the number that its function answers, 0 where every check of it is met.
+-- A stage is told by what its function answers.
 use mathlib.Core.Path.{◌≡◌, refl, sym, ap, ◌∙◌}
 use mathlib.Core.Bool.{Bool, true, false}
 use mathlib.Core.List.{List, [], ◌∷◌, ◌++◌, append_assoc}
@@ -9,11 +9,14 @@ use native.Mathlib.Omega.{arith}
 use lib.Dec.{ltb}
 use Rattle.words.specs.Choice.{pick}
 use Rattle.words.specs.Lists.{all}
-use Rattle.words.specs.Checks.{Check, Outcome, value, refused, refusal, outcome, Met, FirstUnmet, if_met}
+use Rattle.words.specs.Checks.{Check, Outcome, refusal, outcome, Met, FirstUnmet, if_met}
+use Rattle.words.specs.Numbers.{number}
+use Rattle.words.specs.declared.refusal.Refusal.{Refusal}
+use Rattle.std.specs.Prelude.{Ok, Err}
 use Rattle.words.specs.Claims.{StagesNumber, StagesOutcome, StagesChoice, StagesMet}
 use Rattle.words.proofs.Lists.{All-append, All-parts}
 use Rattle.words.proofs.Tests.{pick_true, pick_same}
-use Rattle.words.proofs.Checks.{if-met, if-unmet, first-number, value-met, value-exactly, refused-exactly, none-exactly, first-exactly, numbered}
+use Rattle.words.proofs.Checks.{if-met, if-unmet, value-met, value-exactly, refused-exactly}
 
 -- ---- the claims
 pub stages-choice : StagesChoice
@@ -25,8 +28,8 @@ stages-number [] ds = refl
 stages-number (c ∷ cs) ds = split c.met (stages-number cs ds)
   where
     split : (b : Bool) → refusal (cs ++ ds) ≡ if_met cs (refusal ds) (refusal cs)
-        → pick b (refusal (cs ++ ds)) c.number
-        ≡ pick b (if_met cs (refusal ds) (pick b (refusal cs) c.number)) (pick b (refusal cs) c.number)
+        → pick b (refusal (cs ++ ds)) (number c.by)
+        ≡ pick b (if_met cs (refusal ds) (pick b (refusal cs) (number c.by))) (pick b (refusal cs) (number c.by))
     split true e = e
     split false e = refl
 
@@ -34,9 +37,9 @@ pub stages-outcome : StagesOutcome
 stages-outcome A [] ds a = refl
 stages-outcome A (c ∷ cs) ds a = split c.met (stages-outcome A cs ds a)
   where
-    split : (b : Bool) → outcome (cs ++ ds) a ≡ if_met cs (outcome ds a) (refused (refusal cs))
-        → ◌≡◌ {A = Outcome A} (pick b (outcome (cs ++ ds) a) (refused c.number))
-        (pick b (if_met cs (outcome ds a) (refused (pick b (refusal cs) c.number))) (refused (pick b (refusal cs) c.number)))
+    split : (b : Bool) → outcome (cs ++ ds) a ≡ if_met cs (outcome ds a) (outcome cs a)
+        → ◌≡◌ {A = Outcome A} (pick b (outcome (cs ++ ds) a) (Err c.by))
+        (pick b (if_met cs (outcome ds a) (pick b (outcome cs a) (Err c.by))) (pick b (outcome cs a) (Err c.by)))
     split true e = e
     split false e = refl
 
@@ -55,7 +58,7 @@ module _ (cs ds : List Check) (m : Met cs) where
   rest-number = sym (stages-number cs ds ∙ if-met (refusal ds) (refusal cs) cs m)
 
   pub rest-outcome : {A : Type 0} (a : A) → outcome ds a ≡ outcome (cs ++ ds) a
-  rest-outcome {A} a = sym (stages-outcome A cs ds a ∙ if-met (outcome ds a) (refused (refusal cs)) cs m)
+  rest-outcome {A} a = sym (stages-outcome A cs ds a ∙ if-met (outcome ds a) (outcome cs a) cs m)
 
   pub rest-choice : {A : Type 0} (a b : A) → if_met ds a b ≡ if_met (cs ++ ds) a b
   rest-choice {A} a b = sym (stages-choice A cs ds a b ∙ if-met (if_met ds a b) b cs m)
@@ -68,18 +71,15 @@ module _ (cs ds es : List Check) (m : Met cs) where
   pub behind-choice : {A : Type 0} (a b : A) → if_met (ds ++ es) a b ≡ if_met ((cs ++ ds) ++ es) a b
   behind-choice a b = rest-choice cs (ds ++ es) m a b ∙ ap (λ (l : List Check). if_met l a b) (sym (append_assoc cs ds es))
 
-pub rest-first : (cs ds : List Check) (k : ℕ) → Met cs → FirstUnmet k ds → FirstUnmet k (cs ++ ds)
+pub rest-first : (cs ds : List Check) (k : Refusal) → Met cs → FirstUnmet k ds → FirstUnmet k (cs ++ ds)
 rest-first [] ds k m u = u
 rest-first (c ∷ cs) ds k m u = inr (m.0, rest-first cs ds k m.1 u)
 
--- ---- a stage whose first check that is not met has the number k: nothing behind it matters
-module _ (cs ds : List Check) (k : ℕ) (u : FirstUnmet k cs) where
-  pub front-number : k ≡ refusal (cs ++ ds)
-  front-number = sym (stages-number cs ds ∙ if-unmet (refusal ds) (refusal cs) cs k u ∙ first-number cs k u)
-
-  pub front-outcome : {A : Type 0} (a : A) → refused k ≡ outcome (cs ++ ds) a
+-- ---- a stage whose first check that is not met refuses by k: nothing behind it matters
+module _ (cs ds : List Check) (k : Refusal) (u : FirstUnmet k cs) where
+  pub front-outcome : {A : Type 0} (a : A) → Err k ≡ outcome (cs ++ ds) a
   front-outcome {A} a =
-      sym (stages-outcome A cs ds a ∙ if-unmet (outcome ds a) (refused (refusal cs)) cs k u ∙ ap refused (first-number cs k u))
+      sym (stages-outcome A cs ds a ∙ if-unmet (outcome ds a) (outcome cs a) cs k u ∙ (refused-exactly A cs a k).1 u)
 
   pub front-choice : {A : Type 0} (a b : A) → b ≡ if_met (cs ++ ds) a b
   front-choice {A} a b = sym (stages-choice A cs ds a b ∙ if-unmet (if_met ds a b) b cs k u)
@@ -93,50 +93,46 @@ settled-outcome (k ∷ cs) c ds a h = pick_same k.met _ _ _ (λ e. settled-outco
 -- ---- a last stage that is met: without it the answer is the same
 pub settled-behind : {A : Type 0} (cs ds : List Check) (a : A) → Met ds → outcome (cs ++ ds) a ≡ outcome cs a
 settled-behind {A} [] ds a m = (value-exactly A ds a).1 m
-settled-behind {A} (c ∷ cs) ds a m = ap (λ (o : Outcome A). pick c.met o (refused c.number)) (settled-behind cs ds a m)
+settled-behind {A} (c ∷ cs) ds a m = ap (λ (o : Outcome A). pick c.met o (Err c.by)) (settled-behind cs ds a m)
 
--- ---- a stage by the number k that its function answers
-module _ (cs : List Check) {k : ℕ} (e : k ≡ refusal cs) where
-  pub stage-first : (k ≡ 0 → ⊥) → FirstUnmet k cs
-  stage-first n = (first-exactly cs k (omega arith)).0 (sym e)
+-- ---- a stage by what its function answers
+module _ (cs : List Check) where
+  pub stage-first : {k : Refusal} → Err k ≡ outcome cs (tt {0}) → FirstUnmet k cs
+  stage-first {k} e = (refused-exactly Unit cs tt k).0 (sym e)
 
-  -- of checks that are written out, it computes that no number is 0
-  pub stage-met : all (λ c. ltb 0 c.number) cs ≡ true → k ≡ 0 → Met cs
-  stage-met n z = (none-exactly cs (numbered cs n)).0 (sym e ∙ z)
+  pub stage-met : Ok tt ≡ outcome cs (tt {0}) → Met cs
+  stage-met e = (value-met cs tt tt (sym e)).0
 
   -- it is the first stage
-  module _ (ds : List Check) (n : k ≡ 0 → ⊥) where
-    pub stage-number : k ≡ refusal (cs ++ ds)
-    stage-number = front-number cs ds k (stage-first n)
-
-    pub stage-refused : {A : Type 0} (a : A) → refused k ≡ outcome (cs ++ ds) a
-    stage-refused a = front-outcome cs ds k (stage-first n) a
+  module _ (ds : List Check) {k : Refusal} (e : Err k ≡ outcome cs (tt {0})) where
+    pub stage-refused : {A : Type 0} (a : A) → Err k ≡ outcome (cs ++ ds) a
+    stage-refused a = front-outcome cs ds k (stage-first e) a
 
     pub stage-kept : {A : Type 0} (new old : A) → old ≡ if_met (cs ++ ds) new old
-    stage-kept new old = front-choice cs ds k (stage-first n) new old
+    stage-kept new old = front-choice cs ds k (stage-first e) new old
 
   -- it is the only one, or the last: then rest-outcome and rest-choice lead on
-  module _ (n : k ≡ 0 → ⊥) {A : Type 0} where
-    pub last-refused : (a : A) → refused k ≡ outcome cs a
-    last-refused a = sym ((refused-exactly A cs a k).1 (stage-first n))
+  module _ {k : Refusal} (e : Err k ≡ outcome cs (tt {0})) {A : Type 0} where
+    pub last-refused : (a : A) → Err k ≡ outcome cs a
+    last-refused a = sym ((refused-exactly A cs a k).1 (stage-first e))
 
     pub last-kept : (new old : A) → old ≡ if_met cs new old
-    last-kept new old = sym (if-unmet new old cs k (stage-first n))
+    last-kept new old = sym (if-unmet new old cs k (stage-first e))
 
 -- ---- a first stage cs that gives a value x, of which the rest and the answer are said
 module _ {X : Type 0} (cs : List Check) (x : X) (rest : X → List Check) {A : Type 0} (answer : X → A) where
-  pub given-refused : {k : ℕ} → outcome cs x ≡ refused k → refused k ≡ outcome (cs ++ rest x) (answer x)
+  pub given-refused : {k : Refusal} → outcome cs x ≡ Err k → Err k ≡ outcome (cs ++ rest x) (answer x)
   given-refused {k} e = front-outcome cs (rest x) k ((refused-exactly X cs x k).0 e) (answer x)
 
-  pub given-value : {y : X} → outcome cs x ≡ value y → outcome (rest y) (answer y) ≡ outcome (cs ++ rest x) (answer x)
+  pub given-value : {y : X} → outcome cs x ≡ Ok y → outcome (rest y) (answer y) ≡ outcome (cs ++ rest x) (answer x)
   given-value {y} e =
       let s = value-met cs x y e in
       (λ j. outcome (rest (sym s.1 j)) (answer (sym s.1 j))) ∙ rest-outcome cs (rest x) s.0 (answer x)
 
-  pub given-kept : {k : ℕ} → outcome cs x ≡ refused k → (old : A) → old ≡ if_met (cs ++ rest x) (answer x) old
+  pub given-kept : {k : Refusal} → outcome cs x ≡ Err k → (old : A) → old ≡ if_met (cs ++ rest x) (answer x) old
   given-kept {k} e old = front-choice cs (rest x) k ((refused-exactly X cs x k).0 e) (answer x) old
 
-  pub given-choice : {y : X} → outcome cs x ≡ value y → (old : A) → if_met (rest y) (answer y) old ≡ if_met (cs ++ rest x) (answer x) old
+  pub given-choice : {y : X} → outcome cs x ≡ Ok y → (old : A) → if_met (rest y) (answer y) old ≡ if_met (cs ++ rest x) (answer x) old
   given-choice {y} e old =
       let s = value-met cs x y e in
       (λ j. if_met (rest (sym s.1 j)) (answer (sym s.1 j)) old) ∙ rest-choice cs (rest x) s.0 (answer x) old

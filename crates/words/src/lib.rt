@@ -1,15 +1,15 @@
-// Words and records of bytes, as every figure of a board is posted, lists of words, and the answer of a check.
+// Words and records of bytes, as every figure of a board is posted, lists of words, and why operations refuse.
 #![tactic(auto)]
 
-ghost use Rattle.std.specs.Prelude.{◌≡◌, ◌+◌, ◌*◌, ◌≤◌, length};
+ghost use Rattle.std.specs.Prelude.{◌≡◌, ◌+◌, ◌*◌, ◌≤◌, length, Ok, Err};
 ghost use Rattle.words.specs.Choice.{pick};
-ghost use Rattle.words.specs.Checks.{value, refused, check_outcome_of};
 ghost use Rattle.words.specs.Bytes.{word, word_at, word_bytes, put_at, record_in, record_at, record_bytes, agrees};
 
 mod distinct;
-pub mod refusal;
+mod refusal;
 
 pub use distinct::none_twice;
+pub use refusal::Refusal;
 
 // Eight words: a record of a board, or a digest.
 #[derive(Clone, Copy)]
@@ -24,22 +24,11 @@ pub struct Record {
     pub w7: u32,
 }
 
-// The answer of a check that yields no value.
-#[derive(Clone, Copy)]
-pub enum CheckAnswer {
-    Passed,
-    Refused(u32),
-}
-
-// The answer by the last test.
-pub fn passed_if(test: bool, number: u32) -> CheckAnswer
-    ensures { check_outcome_of result ≡ pick test (value tt) (refused number) }
+// Refused by `refusal` unless the test holds.
+pub fn passed_if(test: bool, refusal: Refusal) -> Result<(), Refusal>
+    ensures { result ≡ pick test (Ok tt) (Err refusal) }
 {
-    if test {
-        CheckAnswer::Passed
-    } else {
-        CheckAnswer::Refused(number)
-    }
+    if test { Ok(()) } else { Err(refusal) }
 }
 
 // The word of four bytes.
