@@ -3,7 +3,7 @@ use mathlib.Core.Path.{◌≡◌}
 use mathlib.Core.List.{List}
 use Prim.Native.Nat.{ℕ, zero, suc, ◌<◌}
 use native.Mathlib.Omega.{arith}
-use Rattle.words.specs.Checks.{Check, Met, Numbered, refusal}
+use Rattle.words.specs.Checks.{Check, Met, refusal}
 use Rattle.words.specs.Bytes.{records_in}
 use Rattle.words.proofs.Lists.{All-append}
 use Rattle.words.proofs.Checks.{none-exactly}

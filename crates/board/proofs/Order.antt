@@ -27,6 +27,7 @@ use Rattle.board.specs.Board.{is_shaped, is_below, is_above, in_order, one_recor
 use Rattle.board.specs.Loops.{no_record}
 use Rattle.board.specs.Sorted.{Sorted}
 use Rattle.board.specs.Claims.{RecordsOfRound, BoardOfOtherRound}
+use Rattle.words.specs.declared.refusal.Refusal.TheVariants.{OtherRound}
 
 -- ---- the checks before verdicts, taken apart
 pub record Reached (S : Setting) (b : List ℕ) : Type 0 where
@@ -217,7 +218,7 @@ records-of-round = of-round
 
 -- where the records before i are met, a record i that is shaped and of another round is the first that is not
 other-round : (S : Setting) (b : List ℕ) (m i j : ℕ) → j < m → Met (record_checks S b i j) → is_shaped S.n (record_at b (i + j)) ≡ true
-    → (round_of (record_at b (i + j)) ≡ S.round → ⊥) → FirstUnmet 17 (record_checks S b i m)
+    → (round_of (record_at b (i + j)) ≡ S.round → ⊥) → FirstUnmet OtherRound (record_checks S b i m)
 other-round S b zero i j h k e n = absurd (not-suc-le-zero h)
 other-round S b (suc m) i zero h k e n =
     let same : record_at b (i + 0) ≡ record_at b i = let z : i + 0 ≡ i = omega arith in ap (record_at b) z in

@@ -2,7 +2,6 @@
 use Rattle.std.specs.Prelude.{Bool, true, false, not, ◌&&◌, List, [], ◌∷◌, ◌++◌, ℕ, zero, suc, ◌+◌, ◌-◌, ◌*◌, ◌%◌, length, take, drop, leb, ltb, eqb}
 use Rattle.words.specs.Choice.{pick}
 use Rattle.words.specs.Lists.{map, all}
-use Rattle.words.specs.Numbers.{bad_length, bad_form, out_of_order, no_member, incomplete, other_round}
 use Rattle.words.specs.Checks.{Check, ◌unless◌, Outcome}
 use Rattle.words.specs.Bytes.{records_in, record_at}
 use Rattle.words.specs.declared.Record.{Record}
@@ -13,6 +12,7 @@ use Rattle.records.specs.Layout.{key_kind, line_kind, opening_kind, share_kind, 
 use Rattle.records.specs.Layout.{is_key_record, is_line_record, is_opening_record, is_share_record, is_of_round}
 use Rattle.records.specs.Keys.{key_checks}
 use Rattle.board.specs.Search.{first}
+use Rattle.words.specs.declared.refusal.Refusal.TheVariants.{BadLength, BadForm, OutOfOrder, NoMember, Incomplete, OtherRound}
 
 -- ---- form and order
 -- a record of the table: its kind known, its dealer and member in range or 0 as the table has it, its spare words zero
@@ -39,9 +39,9 @@ in_order b i = pick (eqb i 0) true (is_above (record_at b (i - 1)) (record_at b 
 -- the record i: 4 a shape that is none of the table's, 17 another round, and then 5
 abbrev pub one_record_checks : Setting → List ℕ → ℕ → List Check
 one_record_checks S b i =
-    bad_form unless is_shaped S.n (record_at b i)
-    ∷ other_round unless is_of_round S.round (record_at b i)
-    ∷ out_of_order unless in_order b i
+    BadForm unless is_shaped S.n (record_at b i)
+    ∷ OtherRound unless is_of_round S.round (record_at b i)
+    ∷ OutOfOrder unless in_order b i
     ∷ []
 
 -- record by record, for m records from the record i on
@@ -51,7 +51,7 @@ record_checks S b i (suc m) = one_record_checks S b i ++ record_checks S b (suc 
 
 -- whole records, at most 2,048
 abbrev pub length_checks : List ℕ → List Check
-length_checks b = bad_length unless (eqb (length b % 32) 0 && leb (records_in b) 2048) ∷ []
+length_checks b = BadLength unless (eqb (length b % 32) 0 && leb (records_in b) 2048) ∷ []
 
 -- and each in form, of the round, and above the one before
 unfoldable pub form_checks : Setting → List ℕ → List Check
@@ -87,7 +87,7 @@ keys_in n b = map (key_in b) (members n)
 
 -- 12 a key missing, then 6 a bad key and 22 two equal ones
 unfoldable pub board_key_checks : Setting → List ℕ → List Check
-board_key_checks S b = incomplete unless all (has_key b) (members S.n) ∷ key_checks S.group (keys_in S.n b)
+board_key_checks S b = Incomplete unless all (has_key b) (members S.n) ∷ key_checks S.group (keys_in S.n b)
 
 -- ---- what is refused before verdicts: 3; record by record 4, 17 and 5; 12, 6 and 22
 unfoldable pub board_checks : Setting → List ℕ → List Check
@@ -110,7 +110,7 @@ lines_of b d = take (32 * lines_end b d - 32 * lines_start b d) (drop (32 * line
 
 -- the checks of both operations on a dealer's lines
 unfoldable pub lines_checks : Setting → ℕ → List ℕ → List Check
-lines_checks S d b = no_member unless is_member S.n d ∷ form_checks S b
+lines_checks S d b = NoMember unless is_member S.n d ∷ form_checks S b
 
 -- whether his lines can be told
 unfoldable pub lines_outcome : List ℕ → Round → ℕ → List ℕ → Outcome (Unit {0})

@@ -9,6 +9,7 @@ use Rattle.records.specs.Layout.{key_kind, line_kind, dealer_of, member_of, roun
 use Rattle.records.specs.Keys.{is_key}
 use Rattle.records.specs.Claims.{KeyTwice}
 use Rattle.board.specs.Board.{is_shaped, record_checks, length_checks, form_checks, board_checks, key_place, has_key, key_in, keys_in, lines_start, lines_end, line_count, lines_of}
+use Rattle.words.specs.declared.refusal.Refusal.TheVariants.{OtherRound, SameKey}
 
 -- ---- keys
 -- the record at key_place is the one key record of member m, and holds a key that no other member has
@@ -27,7 +28,7 @@ KeysExact = (S : Setting) (b : List ℕ) → Met (board_checks S b) → (m : ℕ
 abbrev pub BoardKeyTwice : Type 0
 BoardKeyTwice =
     (S : Setting) (b : List ℕ) → Met (form_checks S b) → all (has_key b) (members S.n) ≡ true → KeyTwice S.group (keys_in S.n b)
-    → FirstUnmet 22 (board_checks S b)
+    → FirstUnmet SameKey (board_checks S b)
 
 -- ---- a dealer's lines
 -- the part of the board holds exactly the dealer's lines, in place; where he has n, each member's line stands at the member's place
@@ -53,4 +54,4 @@ RecordsOfRound = (S : Setting) (b : List ℕ) → Met (form_checks S b) → (i :
 abbrev pub BoardOfOtherRound : Type 0
 BoardOfOtherRound =
     (S : Setting) (b : List ℕ) (i : ℕ) → i < records_in b → Met (length_checks b ++ record_checks S b 0 i) → is_shaped S.n (record_at b i) ≡ true
-    → (round_of (record_at b i) ≡ S.round → ⊥) → FirstUnmet 17 (form_checks S b)
+    → (round_of (record_at b i) ≡ S.round → ⊥) → FirstUnmet OtherRound (form_checks S b)

@@ -2,7 +2,6 @@
 use Rattle.std.specs.Prelude.{List, [], ◌∷◌, ℕ}
 use Rattle.words.specs.Choice.{pick}
 use Rattle.words.specs.Lists.{all, filled}
-use Rattle.words.specs.Numbers.{bad_form, out_of_order, other_round}
 use Rattle.words.specs.Checks.{Check, ◌unless◌}
 use Rattle.words.specs.declared.Record.{Record}
 use Rattle.sharing.specs.Setting.{members}
@@ -10,6 +9,7 @@ use Rattle.sharing.specs.declared.Setting.{Setting}
 use Rattle.records.specs.Layout.{is_of_round}
 use Rattle.board.specs.Board.{is_shaped, is_above, has_key, keys_in}
 use Rattle.board.specs.declared.FoundKeys.{FoundKeys}
+use Rattle.words.specs.declared.refusal.Refusal.TheVariants.{BadForm, OutOfOrder, OtherRound}
 
 -- what stands before the first record: no kind is 0, so every record of the table is above it
 abbrev pub no_record : Record
@@ -18,7 +18,7 @@ no_record = record { w0 = 0; w1 = 0; w2 = 0; w3 = 0; w4 = 0; w5 = 0; w6 = 0; w7 
 -- the record r behind the record q: 4 a shape that is none of the table's, 17 another round, 5 not above q
 abbrev pub next_record_checks : Setting → Record → Record → List Check
 next_record_checks S q r =
-    bad_form unless is_shaped S.n r ∷ other_round unless is_of_round S.round r ∷ out_of_order unless is_above q r ∷ []
+    BadForm unless is_shaped S.n r ∷ OtherRound unless is_of_round S.round r ∷ OutOfOrder unless is_above q r ∷ []
 
 -- the members' keys and 0 behind them, zeros where one is missing
 unfoldable pub found_keys : ℕ → List ℕ → FoundKeys

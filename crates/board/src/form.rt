@@ -1,17 +1,14 @@
 // The form and order of a board's records, refused record by record.
 ghost use Rattle.std.specs.Prelude.{◌≡◌};
-ghost use Rattle.words.specs.Checks.{refusal};
+ghost use Rattle.words.specs.Checks.{outcome};
 ghost use Rattle.words.specs.Bytes.{records_in};
 ghost use Rattle.board.specs.Board.{is_shaped, is_below, record_checks, form_checks};
 ghost use Rattle.board.specs.Loops.{no_record, next_record_checks};
 
 use crate::search::record_count;
-use records::{
-    ADDED, KEY, LINE, OPENING, SHARE, is_key_record, is_line_record, is_of_round,
-    is_opening_record, is_share_record,
-};
+use records::{ADDED, KEY, LINE, OPENING, SHARE, is_key_record, is_line_record, is_of_round, is_opening_record, is_share_record};
 use sharing::{Setting, is_member};
-use words::{Record, record_at, refusal};
+use words::{Record, Refusal, record_at};
 
 // Whether r is a record of the table, for n members; its round is tested apart. By `&` each kind has one way through its tests.
 fn is_shaped(n: u32, r: Record) -> bool
@@ -60,48 +57,44 @@ fn no_record() -> Record
 }
 
 // What the record r is refused by behind the record before: 4 it is none of the table; 17 it is of another round; 5 it is not above the one
-// before. 0 where it is not.
-fn record_refusal(s: Setting, before: Record, r: Record) -> u32
-    ensures { result ≡ refusal (next_record_checks s before r) }
+// before.
+fn check_record(s: Setting, before: Record, r: Record) -> Result<(), Refusal>
+    ensures { result ≡ outcome (next_record_checks s before r) tt }
 {
     if !is_shaped(s.n, r) {
-        return refusal::BAD_FORM;
+        return Err(Refusal::BadForm);
     }
     if !is_of_round(s.round, r) {
-        return refusal::OTHER_ROUND;
+        return Err(Refusal::OtherRound);
     }
     if !is_below(before, r.w0, r.w1, r.w2) {
-        return refusal::OUT_OF_ORDER;
+        return Err(Refusal::OutOfOrder);
     }
-    0
+    Ok(())
 }
 
-// What the records are refused by, one after the other: 4, 17 and 5. 0 where they are not.
-fn records_refusal(s: Setting, b: &[u8]) -> u32
-    ensures { result ≡ refusal (record_checks s b.now 0 (records_in b.now)) }
+// What the records are refused by, one after the other: 4, 17 and 5.
+fn check_records(s: Setting, b: &[u8]) -> Result<(), Refusal>
+    ensures { result ≡ outcome (record_checks s b.now 0 (records_in b.now)) tt }
 {
     let all = record_count(b);
     let mut before = no_record();
     let mut i = 0;
     while i < all {
         let r = record_at(b, i);
-        let refused = record_refusal(s, before, r);
-        if refused != 0 {
-            return refused;
-        }
+        check_record(s, before, r)?;
         before = r;
         i += 1;
     }
-    0
+    Ok(())
 }
 
-// What the form of a board is refused by: 3 not whole records or more than 2,048; 4, 17 and 5 record by record. 0 where it is
-// not.
-pub(crate) fn form_refusal(s: Setting, b: &[u8]) -> u32
-    ensures { result ≡ refusal (form_checks s b.now) }
+// What the form of a board is refused by: 3 not whole records or more than 2,048; 4, 17 and 5 record by record.
+pub(crate) fn check_form(s: Setting, b: &[u8]) -> Result<(), Refusal>
+    ensures { result ≡ outcome (form_checks s b.now) tt }
 {
     if b.len() % 32 != 0 || record_count(b) > 2048 {
-        return refusal::BAD_LENGTH;
+        return Err(Refusal::BadLength);
     }
-    records_refusal(s, b)
+    check_records(s, b)
 }

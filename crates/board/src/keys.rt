@@ -1,18 +1,18 @@
 // The members' keys, and what is refused before verdicts.
 ghost use Rattle.std.specs.Prelude.{◌≡◌, true, ◌≤◌};
 ghost use Rattle.words.specs.Lists.{all, filled};
-ghost use Rattle.words.specs.Checks.{refusal};
+ghost use Rattle.words.specs.Checks.{outcome};
 ghost use Rattle.sharing.specs.Setting.{ProperSetting, members};
 ghost use Rattle.board.specs.Board.{has_key, keys_in, board_key_checks, board_checks};
 ghost use Rattle.board.specs.Loops.{found_keys};
 ghost use Rattle.board.specs.Sorted.{Sorted};
 
 use crate::FoundKeys;
-use crate::form::form_refusal;
+use crate::form::check_form;
 use crate::search::{find_key, record_count};
-use records::keys_refusal;
+use records::check_keys;
 use sharing::Setting;
-use words::{record_at, refusal};
+use words::{Refusal, record_at};
 
 // The members' keys as they are found, one search for each; zeros where one is missing.
 // Internal: callers ensure that there are at most 31 members and that the records ascend.
@@ -47,30 +47,27 @@ pub fn board_keys(b: &[u8], n: u32) -> [u32; 31]
     found.ys
 }
 
-// What the keys are refused by: 12 a key missing; 6 a bad key; 22 two equal keys. 0 where they are not.
+// What the keys are refused by: 12 a key missing; 6 a bad key; 22 two equal keys.
 // Internal: callers ensure that the setting is proper and that the records ascend.
-fn board_keys_refusal(s: Setting, b: &[u8]) -> u32
+fn check_board_keys(s: Setting, b: &[u8]) -> Result<(), Refusal>
     requires { (ProperSetting s) × (Sorted b.now) }
-    ensures { result ≡ refusal (board_key_checks s b.now) }
+    ensures { result ≡ outcome (board_key_checks s b.now) tt }
 {
     let found = found_keys(b, s.n);
     if !found.complete {
-        return refusal::INCOMPLETE;
+        return Err(Refusal::Incomplete);
     }
     let n = s.n as usize;
     let ys = found.ys;
-    keys_refusal(s.group, &ys[..n])
+    check_keys(s.group, &ys[..n])
 }
 
-// What a board is refused by before verdicts: 3, 4, 17 and 5 its form; 12, 6 and 22 its keys. 0 where it is not.
+// What a board is refused by before verdicts: 3, 4, 17 and 5 its form; 12, 6 and 22 its keys.
 // Internal: callers ensure that the setting is proper.
-pub fn board_refusal_in(s: Setting, b: &[u8]) -> u32
+pub fn check_board(s: Setting, b: &[u8]) -> Result<(), Refusal>
     requires { ProperSetting s }
-    ensures { result ≡ refusal (board_checks s b.now) }
+    ensures { result ≡ outcome (board_checks s b.now) tt }
 {
-    let k = form_refusal(s, b);
-    if k != 0 {
-        return k;
-    }
-    board_keys_refusal(s, b)
+    check_form(s, b)?;
+    check_board_keys(s, b)
 }

@@ -6,7 +6,7 @@ mod keys;
 mod parts;
 mod search;
 
-pub use keys::{board_keys, board_refusal_in};
+pub use keys::{board_keys, check_board};
 pub use parts::{dealer_lines, lines_check, lines_of};
 pub use search::{find_key, find_opening, place_of, record_count};
 

@@ -1,14 +1,14 @@
 // The part of a board that holds a dealer's lines.
 ghost use Rattle.std.specs.Prelude.{◌≡◌, ◌*◌};
-ghost use Rattle.words.specs.Checks.{refusal, check_outcome_of};
+ghost use Rattle.words.specs.Checks.{outcome};
 ghost use Rattle.board.specs.Board.{lines_start, lines_of, lines_checks, lines_outcome, lines_part, lines_at, behind};
 ghost use Rattle.board.specs.Sorted.{Sorted};
 
-use crate::form::form_refusal;
+use crate::form::check_form;
 use crate::search::place_of;
 use records::LINE;
-use sharing::{Round, Setting, SettingAnswer, is_member, setting_of};
-use words::{CheckAnswer, refusal};
+use sharing::{Round, Setting, is_member, setting_of};
+use words::Refusal;
 
 // The lines of dealer d as they lie on the board.
 // Internal: callers ensure that the records ascend.
@@ -22,28 +22,25 @@ pub fn lines_of(b: &[u8], d: u32) -> &[u8]
     &b[from..to]
 }
 
-// What the lines of dealer d are refused by: 8 d is no member; 3, 4, 17 and 5 the board's form. 0 where they are not.
-fn lines_refusal(s: Setting, d: u32, b: &[u8]) -> u32
-    ensures { result ≡ refusal (lines_checks s d b.now) }
+// What the lines of dealer d are refused by: 8 d is no member; 3, 4, 17 and 5 the board's form.
+fn check_lines(s: Setting, d: u32, b: &[u8]) -> Result<(), Refusal>
+    ensures { result ≡ outcome (lines_checks s d b.now) tt }
 {
     if !is_member(s.n, d) {
-        return refusal::NO_MEMBER;
+        return Err(Refusal::NoMember);
     }
-    form_refusal(s, b)
+    check_form(s, b)
 }
 
 // Whether the lines of dealer d can be told. Refused: as setting_of; 8 d is no member; 3, 4, 17 and 5 the board's form.
-pub fn lines_check(table: &[u8], rd: Round, d: u32, b: &[u8]) -> CheckAnswer
-    ensures { check_outcome_of result ≡ lines_outcome table.now rd d b.now }
+pub fn lines_check(table: &[u8], rd: Round, d: u32, b: &[u8]) -> Result<(), Refusal>
+    ensures { result ≡ lines_outcome table.now rd d b.now }
 {
     match setting_of(table, rd) {
-        SettingAnswer::Refused(k) => CheckAnswer::Refused(k),
-        SettingAnswer::Value(s) => {
-            let k = lines_refusal(s, d, b);
-            if k != 0 {
-                return CheckAnswer::Refused(k);
-            }
-            CheckAnswer::Passed
+        Err(k) => Err(k),
+        Ok(s) => {
+            check_lines(s, d, b)?;
+            Ok(())
         }
     }
 }
@@ -54,7 +51,7 @@ pub fn dealer_lines<'a>(table: &[u8], rd: Round, d: u32, b: &'a [u8]) -> &'a [u8
     ensures ref_ptr_value { result.ref_ptr ≡ behind (lines_at table.now rd d b.now) b.entry.ref_ptr }
 {
     match lines_check(table, rd, d, b) {
-        CheckAnswer::Refused(_) => &b[0..0],
-        CheckAnswer::Passed => lines_of(b, d),
+        Err(_) => &b[0..0],
+        Ok(()) => lines_of(b, d),
     }
 }

@@ -8,7 +8,7 @@ use lib.Dec.{ltb}
 use lib.ListN.{length, take, drop, length-append}
 use lib.Seq.{take_at, drop_at}
 use Rattle.words.specs.Lists.{Below}
-use Rattle.words.specs.Checks.{value, refused, Met}
+use Rattle.words.specs.Checks.{Met}
 use Rattle.words.specs.Bytes.{record_words, record_bytes, record_in, record_at}
 use Rattle.words.specs.declared.Record.{Record}
 use Rattle.words.proofs.Tests.{and-true}
@@ -21,6 +21,7 @@ use Rattle.chain.specs.Link.{link_layout, link_message, link_digest}
 use Rattle.chain.specs.Chain.{links_in, figures_at, digest_at, digest_after, chain_checks, chain_outcome, next_link, next_checks, extend_checks, extend_outcome, lent_link}
 use Rattle.chain.specs.Claims.{AcceptedChain, DrawValue, IsChain, ExtendLent, GroupNotHashed}
 use Rattle.chain.proofs.Accepted.{draw-value, each_more, LinkAt, accepted-exactly, number_word, value-word, SameLinks, same_after, link-same, same-link, start-links}
+use Rattle.std.specs.Prelude.{Ok, Err}
 
 -- ---- what the checks settle
 record Extendable (T b : List ℕ) (number v : ℕ) : Type 0 where
@@ -29,7 +30,7 @@ record Extendable (T b : List ℕ) (number v : ℕ) : Type 0 where
   more : links_in b < 1024
   drawn : DrawValue (groups_of T) number v
 
-module _ (T b : List ℕ) (number v : ℕ) (out : List ℕ) (e : extend_outcome T b number v (length out) ≡ value tt) where
+module _ (T b : List ℕ) (number v : ℕ) (out : List ℕ) (e : extend_outcome T b number v (length out) ≡ Ok tt) where
   met : Met (extend_checks T b number v (length out))
   unfolding extend_outcome
   met = (value-exactly Unit (extend_checks T b number v (length out)) tt).0 e
@@ -50,7 +51,7 @@ module _ (T b : List ℕ) (number v : ℕ) (out : List ℕ) (e : extend_outcome 
   unfolding lent_link
   lent-next = if-met (next_link b number v) out (extend_checks T b number v (length out)) met
 
-kept : (T b : List ℕ) (number v : ℕ) (out : List ℕ) (k : ℕ) → extend_outcome T b number v (length out) ≡ refused k → lent_link T b number v out ≡ out
+kept : (T b : List ℕ) (number v : ℕ) (out : List ℕ) (k : ℕ) → extend_outcome T b number v (length out) ≡ Err k → lent_link T b number v out ≡ out
 unfolding extend_outcome lent_link
 kept T b number v out k e =
     let cs = extend_checks T b number v (length out) in

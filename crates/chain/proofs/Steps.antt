@@ -6,7 +6,7 @@ use Prim.Native.Nat.{ℕ, zero, suc, ◌+◌, ◌-◌, ◌<◌, ◌≤◌}
 use native.Mathlib.Omega.{arith}
 use borrow.Author.Tests.{le-ltb, ne_eqb}
 use lib.Dec.{ltb, eqb}
-use Rattle.words.specs.Checks.{Check, refusal, Numbered}
+use Rattle.words.specs.Checks.{Check, refusal}
 use Rattle.words.specs.declared.Record.{Record}
 use Rattle.words.proofs.Lists.{All-append}
 use Rattle.words.proofs.Checks.{numbered, none-exactly}

@@ -1,12 +1,12 @@
 -- The chain: its links one after the other, what judging it answers, and the link that extends it.
 use Rattle.std.specs.Prelude.{◌&&◌, List, [], ◌∷◌, ◌++◌, ℕ, zero, suc, ◌+◌, ◌*◌, ◌/◌, ◌%◌, leb, ltb, eqb, length}
-use Rattle.words.specs.Numbers.{bad_length}
 use Rattle.words.specs.Checks.{Check, ◌unless◌, Outcome, outcome, if_met}
 use Rattle.words.specs.Bytes.{record_bytes, record_at}
 use Rattle.words.specs.declared.Record.{Record}
 use Rattle.group.specs.Table.{groups_of, table_checks}
 use Rattle.group.specs.declared.Group.{Group}
 use Rattle.chain.specs.Link.{link_layout, no_digest, link_digest, value_checks, link_checks}
+use Rattle.words.specs.declared.refusal.Refusal.TheVariants.{BadLength}
 
 -- ---- links by number, from 0
 abbrev pub links_in : List ℕ → ℕ
@@ -31,7 +31,7 @@ links_checks Gs b i (suc m) = link_checks Gs (digest_after b i) (suc i) (figures
 
 -- whole links, at most 1,024, and each of them, among the groups of an accepted table
 unfoldable pub linked_checks : List Group → List ℕ → List Check
-linked_checks Gs b = bad_length unless (eqb (length b % 64) 0 && leb (links_in b) 1024) ∷ links_checks Gs b 0 (links_in b)
+linked_checks Gs b = BadLength unless (eqb (length b % 64) 0 && leb (links_in b) 1024) ∷ links_checks Gs b 0 (links_in b)
 
 -- the table T comes first
 unfoldable pub chain_checks : List ℕ → List ℕ → List Check
@@ -48,7 +48,7 @@ next_link b number v =
 
 -- what is asked beside the chain: that it is not full, room for one link, and a draw value of the group
 abbrev pub next_checks : List Group → List ℕ → ℕ → ℕ → ℕ → List Check
-next_checks Gs b number v room = bad_length unless (ltb (links_in b) 1024 && eqb room 64) ∷ value_checks Gs number v
+next_checks Gs b number v room = BadLength unless (ltb (links_in b) 1024 && eqb room 64) ∷ value_checks Gs number v
 
 -- the table and the chain are judged first
 unfoldable pub extend_checks : List ℕ → List ℕ → ℕ → ℕ → ℕ → List Check

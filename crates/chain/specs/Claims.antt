@@ -1,7 +1,7 @@
 -- What is claimed of chains: which ones are accepted, that an extended chain is, and what two chains have in common that end in one digest.
-use Rattle.std.specs.Prelude.{◌≡◌, Bool, true, ◌&&◌, List, [], ◌∷◌, ◌++◌, ◌⊎◌, ◌↔◌, ℕ, zero, suc, ◌*◌, ◌%◌, ◌≤◌, ◌<◌, eqb, length, take, drop, replicate}
+use Rattle.std.specs.Prelude.{◌≡◌, Bool, true, ◌&&◌, List, [], ◌∷◌, ◌++◌, ◌⊎◌, ◌↔◌, ℕ, zero, suc, ◌*◌, ◌%◌, ◌≤◌, ◌<◌, eqb, length, take, drop, replicate, Ok, Err}
 use Rattle.words.specs.Choice.{pick}
-use Rattle.words.specs.Checks.{value, refused, Met}
+use Rattle.words.specs.Checks.{Met}
 use Rattle.words.specs.Bytes.{agrees}
 use Rattle.words.specs.declared.Record.{Record}
 use Rattle.sha256.specs.Hash.{hash}
@@ -14,7 +14,7 @@ use Rattle.chain.specs.Chain.{links_in, figures_at, digest_at, digest_after, cha
 -- ---- accepted chains
 -- by the table T
 abbrev pub AcceptedChain : List ℕ → List ℕ → Type 0
-AcceptedChain T b = chain_outcome T b ≡ value tt
+AcceptedChain T b = chain_outcome T b ≡ Ok tt
 
 -- v is an element of the group of that number, which there is
 pub record DrawValue (Gs : List Group) (number v : ℕ) : Type 0 where
@@ -45,9 +45,9 @@ StartsAccepted = (T b : List ℕ) → AcceptedChain T b → (m : ℕ) → m ≤ 
 -- ---- extending
 -- where it passes, the output is the next link, and the chain with it behind is accepted; where it refuses, the output is as it was
 pub record Extended (T b : List ℕ) (number v : ℕ) (out : List ℕ) : Type 0 where
-  pub written : extend_outcome T b number v (length out) ≡ value tt → lent_link T b number v out ≡ next_link b number v
-  pub accepted : extend_outcome T b number v (length out) ≡ value tt → AcceptedChain T (b ++ lent_link T b number v out)
-  pub kept : (k : ℕ) → extend_outcome T b number v (length out) ≡ refused k → lent_link T b number v out ≡ out
+  pub written : extend_outcome T b number v (length out) ≡ Ok tt → lent_link T b number v out ≡ next_link b number v
+  pub accepted : extend_outcome T b number v (length out) ≡ Ok tt → AcceptedChain T (b ++ lent_link T b number v out)
+  pub kept : (k : ℕ) → extend_outcome T b number v (length out) ≡ Err k → lent_link T b number v out ≡ out
 
 abbrev pub ExtendLent : Type 0
 ExtendLent = (T b : List ℕ) (number v : ℕ) (out : List ℕ) → Extended T b number v out
@@ -56,7 +56,7 @@ ExtendLent = (T b : List ℕ) (number v : ℕ) (out : List ℕ) → Extended T b
 abbrev pub GroupNotHashed : Type 0
 GroupNotHashed =
     (T T' b : List ℕ) (number number' v : ℕ) (out out' : List ℕ)
-    → extend_outcome T b number v (length out) ≡ value tt → extend_outcome T' b number' v (length out') ≡ value tt
+    → extend_outcome T b number v (length out) ≡ Ok tt → extend_outcome T' b number' v (length out') ≡ Ok tt
     → drop 32 (lent_link T b number v out) ≡ drop 32 (lent_link T' b number' v out')
 
 -- ---- the table
@@ -73,8 +73,8 @@ ChainByGroups =
 -- ---- worked example
 -- the first link by the draw value 4 in the built-in group 1, byte by byte; group 2 has this value too
 pub record FirstLink : Type 0 where
-  pub passed : extend_outcome [] [] 1 4 64 ≡ value tt
-  pub passed-too : extend_outcome [] [] 2 4 64 ≡ value tt
+  pub passed : extend_outcome [] [] 1 4 64 ≡ Ok tt
+  pub passed-too : extend_outcome [] [] 2 4 64 ≡ Ok tt
   pub bytes : next_link [] 1 4
       ≡ 0 ∷ 0 ∷ 0 ∷ 1 ∷ 0 ∷ 0 ∷ 0 ∷ 4 ∷ 0 ∷ 0 ∷ 0 ∷ 1 ∷ (replicate 20 0
       ++ (0x7b ∷ 0xb2 ∷ 0xaa ∷ 0x9c ∷ 0x3a ∷ 0x5e ∷ 0x60 ∷ 0x98 ∷ 0xdc ∷ 0xe7 ∷ 0x38 ∷ 0x5b ∷ 0x89 ∷ 0x62 ∷ 0xc1 ∷ 0x25

@@ -1,6 +1,5 @@
 -- One link: two records of 32 bytes, its figures and its digest; what is hashed for it, and its checks.
 use Rattle.std.specs.Prelude.{Bool, List, [], ◌∷◌, ◌++◌, ℕ, eqb}
-use Rattle.words.specs.Numbers.{unknown_group, bad_form, no_element, wrong_digest, not_next}
 use Rattle.words.specs.Checks.{Check, ◌unless◌}
 use Rattle.words.specs.Bytes.{words_bytes, record_bytes, agrees}
 use Rattle.words.specs.declared.Record.{Record}
@@ -8,6 +7,7 @@ use Rattle.sha256.specs.Hash.{hash_value}
 use Rattle.group.specs.Table.{is_group, group_of}
 use Rattle.group.specs.Element.{is_element}
 use Rattle.group.specs.declared.Group.{Group}
+use Rattle.words.specs.declared.refusal.Refusal.TheVariants.{UnknownGroup, BadForm, NoElement, WrongDigest, NotNext}
 
 -- ---- figures: the round, the draw value v and the group's number, and 20 spare bytes that are 0
 abbrev pub link_layout : ℕ → ℕ → ℕ → Record
@@ -41,16 +41,16 @@ link_digest before v round = hash_value (link_message before v round)
 -- ---- checks
 -- a draw value of the group of that number, among the groups of a table
 abbrev pub value_checks : List Group → ℕ → ℕ → List Check
-value_checks Gs number v = unknown_group unless is_group Gs number ∷ no_element unless is_element (group_of Gs number) v ∷ []
+value_checks Gs number v = UnknownGroup unless is_group Gs number ∷ NoElement unless is_element (group_of Gs number) v ∷ []
 
 -- this round, and a digest behind this one
 abbrev pub place_checks : Record → ℕ → Record → Record → List Check
 place_checks before round figures digest =
-    not_next unless eqb (link_round figures) round
-    ∷ wrong_digest unless agrees digest (link_digest before (link_value figures) (link_round figures))
+    NotNext unless eqb (link_round figures) round
+    ∷ WrongDigest unless agrees digest (link_digest before (link_value figures) (link_round figures))
     ∷ []
 
 -- a link of this round behind this digest
 abbrev pub link_checks : List Group → Record → ℕ → Record → Record → List Check
 link_checks Gs before round figures digest =
-    (bad_form unless is_link_record figures ∷ value_checks Gs (link_group figures) (link_value figures)) ++ place_checks before round figures digest
+    (BadForm unless is_link_record figures ∷ value_checks Gs (link_group figures) (link_value figures)) ++ place_checks before round figures digest

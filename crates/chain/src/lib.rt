@@ -2,16 +2,16 @@
 #![tactic(auto)]
 
 ghost use Rattle.std.specs.Prelude.{◌≡◌, ◌≤◌, ◌<◌, length};
-ghost use Rattle.words.specs.Checks.{refusal, check_outcome_of};
+ghost use Rattle.words.specs.Checks.{outcome};
 ghost use Rattle.group.specs.Table.{groups_of};
 ghost use Rattle.chain.specs.Chain.{links_in, digest_after, links_checks, linked_checks, chain_checks, chain_outcome};
 ghost use Rattle.chain.specs.Chain.{next_link, extend_checks, extend_outcome, lent_link};
 
 mod link;
 
-use group::{Element, table_refusal};
-use link::{link_digest, link_record, link_refusal, no_digest, value_refusal};
-use words::{CheckAnswer, Record, record_at, refusal, write_record};
+use group::{Element, check_table};
+use link::{link_digest, link_record, check_link, no_digest, check_value};
+use words::{Record, Refusal, record_at, write_record};
 
 // The number of links.
 fn links(b: &[u8]) -> usize
@@ -20,76 +20,64 @@ fn links(b: &[u8]) -> usize
     b.len() / 64
 }
 
-// What the links are refused by, one after the other: 4, 1, 6, 19 and 18. 0 where they are not.
+// What the links are refused by, one after the other: 4, 1, 6, 19 and 18.
 // Internal: callers ensure that there are at most 1,024, and have judged the table.
-fn links_refusal(table: &[u8], b: &[u8]) -> u32
+fn check_links(table: &[u8], b: &[u8]) -> Result<(), Refusal>
     requires { links_in b.now ≤ 1024 }
-    ensures { result ≡ refusal (links_checks (groups_of table.now) b.now 0 (links_in b.now)) }
+    ensures { result ≡ outcome (links_checks (groups_of table.now) b.now 0 (links_in b.now)) tt }
 {
     let all = links(b);
     let mut before = no_digest();
     let mut i = 0;
     while i < all {
         let digest = record_at(b, 2 * i + 1);
-        let refused = link_refusal(table, before, i as u32 + 1, record_at(b, 2 * i), digest);
-        if refused != 0 {
-            return refused;
-        }
+        check_link(table, before, i as u32 + 1, record_at(b, 2 * i), digest)?;
         before = digest;
         i += 1;
     }
-    0
+    Ok(())
 }
 
-// What a chain is refused by: 3 not whole links, or more than 1,024; 4, 1, 6, 19 and 18 link by link. 0 where it is not.
+// What a chain is refused by: 3 not whole links, or more than 1,024; 4, 1, 6, 19 and 18 link by link.
 // Internal: callers have judged the table.
-fn linked_refusal(table: &[u8], b: &[u8]) -> u32
-    ensures { result ≡ refusal (linked_checks (groups_of table.now) b.now) }
+fn check_linked(table: &[u8], b: &[u8]) -> Result<(), Refusal>
+    ensures { result ≡ outcome (linked_checks (groups_of table.now) b.now) tt }
 {
     if b.len() % 64 != 0 || links(b) > 1024 {
-        return refusal::BAD_LENGTH;
+        return Err(Refusal::BadLength);
     }
-    links_refusal(table, b)
+    check_links(table, b)
 }
 
-// What a chain is refused by: 3, 4, 20 and 21 the table, as table_refusal; then the chain, as linked_refusal. 0 where it is not.
-fn chain_refusal(table: &[u8], b: &[u8]) -> u32
-    ensures { result ≡ refusal (chain_checks table.now b.now) }
+// What a chain is refused by: 3, 4, 20 and 21 the table, as check_table; then the chain, as check_linked.
+fn check_chain(table: &[u8], b: &[u8]) -> Result<(), Refusal>
+    ensures { result ≡ outcome (chain_checks table.now b.now) tt }
 {
-    let refused = table_refusal(table);
-    if refused != 0 {
-        return refused;
-    }
-    linked_refusal(table, b)
+    check_table(table)?;
+    check_linked(table, b)
 }
 
-// Judges a chain. Refused: 3, 4, 20 and 21 the table, as table_refusal; 3 not whole links, or more than 1,024; then link by link 4 a spare
+// Judges a chain. Refused: 3, 4, 20 and 21 the table, as check_table; 3 not whole links, or more than 1,024; then link by link 4 a spare
 // byte is not 0; 1 no group of that number; 6 the draw value is no element; 19 the round is not the next; 18 the digest is wrong. A chain of
 // no links passes.
-pub fn judge_chain(table: &[u8], b: &[u8]) -> CheckAnswer
-    ensures { check_outcome_of result ≡ chain_outcome table.now b.now }
+pub fn judge_chain(table: &[u8], b: &[u8]) -> Result<(), Refusal>
+    ensures { result ≡ chain_outcome table.now b.now }
 {
-    let refused = chain_refusal(table, b);
-    if refused != 0 {
-        return CheckAnswer::Refused(refused);
-    }
-    CheckAnswer::Passed
+    check_chain(table, b)?;
+    Ok(())
 }
 
 // What an extension is refused by: what table and chain are refused by; 3 a full chain, or not the room of one link; 1 and 6 the draw value.
-// 0 where it is not.
+//.
 #[tactic(auto, using(crate::proofs::Steps::full_refused, crate::proofs::Steps::room_refused))]
-fn extend_refusal(table: &[u8], b: &[u8], number: u32, value: Element, room: usize) -> u32
-    ensures { result ≡ refusal (extend_checks table.now b.now number value.0 room) }
+fn check_extension(table: &[u8], b: &[u8], number: u32, value: Element, room: usize) -> Result<(), Refusal>
+    ensures { result ≡ outcome (extend_checks table.now b.now number value.0 room) tt }
 {
-    let refused = chain_refusal(table, b);
-    if refused != 0 {
-        return refused;
-    }
+    check_chain(table, b)?;
     if links(b) >= 1024 || room != 64 {
-        return refusal::BAD_LENGTH;
+        return Err(Refusal::BadLength);
     }
-    value_refusal(table, number, value)
+    check_value(table, number, value)
 }
 
 // The digest of the last link, or what stands for it in a chain of none.
@@ -123,14 +111,11 @@ pub fn extend_chain(
     number: u32,
     value: Element,
     out: &mut [u8],
-) -> CheckAnswer
-    ensures result_value { check_outcome_of result ≡ extend_outcome table.now b.now number value.0 (length out.old) }
+) -> Result<(), Refusal>
+    ensures result_value { result ≡ extend_outcome table.now b.now number value.0 (length out.old) }
     ensures out_after { out.new ≡ lent_link table.now b.now number value.0 out.old }
 {
-    let refused = extend_refusal(table, b, number, value, out.len());
-    if refused != 0 {
-        return CheckAnswer::Refused(refused);
-    }
+    check_extension(table, b, number, value, out.len())?;
     put_next(b, number, value, out);
-    CheckAnswer::Passed
+    Ok(())
 }

@@ -1,12 +1,12 @@
 // One link of the chain: its figures, its digest, and what it is refused by.
 ghost use Rattle.std.specs.Prelude.{◌≡◌};
-ghost use Rattle.words.specs.Checks.{refusal};
+ghost use Rattle.words.specs.Checks.{outcome};
 ghost use Rattle.group.specs.Table.{groups_of};
 ghost use Rattle.chain.specs.Link.{link_layout, is_link_record, no_digest, link_digest, value_checks, link_checks};
 
-use group::{Element, GroupAnswer, group_in, is_element};
-use sha256::{DigestAnswer, digest};
-use words::{Record, agrees, put_word, refusal, write_record};
+use group::{Element, group_in, is_element};
+use sha256::digest;
+use words::{Record, Refusal, agrees, put_word, write_record};
 
 // The figures of a link: the round, the draw value and the group's number.
 pub(crate) fn link_record(round: u32, value: Element, number: u32) -> Record
@@ -55,50 +55,47 @@ pub(crate) fn link_digest(before: Record, value: Element, round: u32) -> Record
     write_record(&mut m[..32], before);
     put_word(&mut m, 32, value.0);
     put_word(&mut m, 36, round);
-    let DigestAnswer::Value(d) = digest(&m) else {
+    let Ok(d) = digest(&m) else {
         return before;
     };
     d
 }
 
-// What a draw value is refused by: 1 no group of that number; 6 no element of it. 0 where it is not.
+// What a draw value is refused by: 1 no group of that number; 6 no element of it.
 // Internal: callers have judged the table.
-pub(crate) fn value_refusal(table: &[u8], number: u32, value: Element) -> u32
-    ensures { result ≡ refusal (value_checks (groups_of table.now) number value.0) }
+pub(crate) fn check_value(table: &[u8], number: u32, value: Element) -> Result<(), Refusal>
+    ensures { result ≡ outcome (value_checks (groups_of table.now) number value.0) tt }
 {
-    let GroupAnswer::Value(gr) = group_in(table, number) else {
-        return refusal::UNKNOWN_GROUP;
+    let Ok(gr) = group_in(table, number) else {
+        return Err(Refusal::UnknownGroup);
     };
     if !is_element(gr, value) {
-        return refusal::NO_ELEMENT;
+        return Err(Refusal::NoElement);
     }
-    0
+    Ok(())
 }
 
-// What a link is refused by, as the link of this round behind this digest: 4 a spare byte; 1 and 6 the draw value, as value_refusal; 19 the
-// round; 18 the digest. 0 where it is not. Internal: callers have judged the table.
-pub(crate) fn link_refusal(
+// What a link is refused by, as the link of this round behind this digest: 4 a spare byte; 1 and 6 the draw value, as check_value; 19 the
+// round; 18 the digest. Internal: callers have judged the table.
+pub(crate) fn check_link(
     table: &[u8],
     before: Record,
     round: u32,
     figures: Record,
     digest: Record,
-) -> u32
-    ensures { result ≡ refusal (link_checks (groups_of table.now) before round figures digest) }
+) -> Result<(), Refusal>
+    ensures { result ≡ outcome (link_checks (groups_of table.now) before round figures digest) tt }
 {
     if !is_link_record(figures) {
-        return refusal::BAD_FORM;
+        return Err(Refusal::BadForm);
     }
     let value = Element(figures.w1);
-    let refused = value_refusal(table, figures.w2, value);
-    if refused != 0 {
-        return refused;
-    }
+    check_value(table, figures.w2, value)?;
     if figures.w0 != round {
-        return refusal::NOT_NEXT;
+        return Err(Refusal::NotNext);
     }
     if !agrees(digest, link_digest(before, value, figures.w0)) {
-        return refusal::WRONG_DIGEST;
+        return Err(Refusal::WrongDigest);
     }
-    0
+    Ok(())
 }

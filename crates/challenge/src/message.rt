@@ -9,7 +9,6 @@ ghost use Rattle.challenge.specs.Message.{dealing_message, share_message, coeffi
 use crate::ShareFigures;
 use crate::exponent::exponent_of;
 use group::Exponent;
-use sha256::DigestAnswer;
 use sharing::Setting;
 
 const DEALING_TAG: u8 = 0x44;
@@ -26,7 +25,7 @@ fn challenge(s: Setting, m: &[u8], k: usize) -> Exponent
     requires { (ProperSetting s) × (k ≤ length m.now) × (k ≤ 65536) }
     ensures { result.0 ≡ challenge_of s (take k m.now) }
 {
-    let DigestAnswer::Value(d) = sha256::digest(&m[..k]) else {
+    let Ok(d) = sha256::digest(&m[..k]) else {
         return Exponent(0);
     };
     exponent_of(s, d)

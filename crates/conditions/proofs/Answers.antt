@@ -3,7 +3,6 @@ use mathlib.Core.Path.{◌≡◌, refl}
 use mathlib.Core.List.{List, [], ◌∷◌}
 use Prim.Native.Nat.{ℕ}
 use Rattle.words.specs.Bytes.{word_at, word_bytes, words_bytes, record_bytes, record_in, record_at, agrees}
-use Rattle.words.specs.Checks.{value}
 use Rattle.words.specs.Lists.{entry}
 use Rattle.field.specs.Residue.{add, mul, sub, inv}
 use Rattle.sha256.specs.Constants.{K, initial}
@@ -24,18 +23,19 @@ use Rattle.lines.specs.Lines.{address_checks, v_in, Y_in, r_in, c_in, is_line_fo
 use Rattle.dealing.specs.Dealing.{judge_size_checks, dealing_form_checks, recomputed, range_checks, equation_checks, judge_dealing_in}
 use Rattle.share.specs.Share.{opened_form, added_form, is_dealer, members_checks, share_recomputed, share_input_checks, share_form_checks, share_admission_checks, share_figure_checks, judge_share_in}
 use Rattle.conditions.specs.Boards.{share, added, first_lines, uncarried_lines, second_lines}
+use Rattle.std.specs.Prelude.{Ok}
 
 -- the dealing judge accepts the lines of dealer d
 abbrev pub Dealing : ℕ → List ℕ → Type 0
-Dealing d lines = judge_dealing_in small d (8 ∷ 12 ∷ 4 ∷ 16 ∷ []) lines ≡ value tt
+Dealing d lines = judge_dealing_in small d (8 ∷ 12 ∷ 4 ∷ 16 ∷ []) lines ≡ Ok tt
 
 -- the share judge accepts the share Z of member i for dealer 1, with the key y and the encrypted share Y
 abbrev pub Share : ℕ → ℕ → ℕ → ℕ → ℕ → ℕ → Type 0
-Share i y Y Z c r = judge_share_in small (opened_form 1) i y Y (share 1 i Z c r) ≡ value (record { 0 = Z })
+Share i y Y Z c r = judge_share_in small (opened_form 1) i y Y (share 1 i Z c r) ≡ Ok (record { 0 = Z })
 
 -- and the added share Z, with the product Y of the encrypted shares
 abbrev pub AddedShare : ℕ → ℕ → ℕ → ℕ → ℕ → ℕ → Type 0
-AddedShare i y Y Z c r = judge_share_in small added_form i y Y (added i Z c r) ≡ value (record { 0 = Z })
+AddedShare i y Y Z c r = judge_share_in small added_form i y Y (added i Z c r) ≡ Ok (record { 0 = Z })
 
 pub record Answers : Type 0 where
   pub first : Dealing 1 first_lines

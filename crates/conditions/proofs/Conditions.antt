@@ -10,7 +10,7 @@ use lib.Dec.{eqb}
 use lib.ListN.{length, get_or, take}
 use Rattle.words.specs.Choice.{pick}
 use Rattle.words.specs.Lists.{All, map, up_from, entry}
-use Rattle.words.specs.Checks.{Outcome, value, outcome, Met}
+use Rattle.words.specs.Checks.{Outcome, outcome, Met}
 use Rattle.words.specs.Bytes.{records_in, record_at}
 use Rattle.words.proofs.Lists.{up-length, up_at}
 use Rattle.words.proofs.Tests.{false-true, and-true, all-at, pick_true}
@@ -43,6 +43,7 @@ use Rattle.demand3.proofs.TwoBoards.{draw-by-round}
 use Rattle.conditions.specs.Boards.{uncarried_low, uncarried_high, added_board}
 use Rattle.conditions.specs.Claims.{polynomial_of, DrawIs, ConditionsMet, OtherConditions, EachCarried, AllTrue, CarriedNeeded, TrueNeeded, AddedMet, OtherAdded, AddedTrueNeeded}
 use Rattle.conditions.proofs.Known.{opened, Known, two-accepted, every_share, is_true_share, is_true_to_line, all_known, AddedKnown, all-added}
+use Rattle.std.specs.Prelude.{Ok}
 
 -- ---- a fact of each of four members
 by-four : (P : ℕ → Type 0) → P 1 → P 2 → P 3 → P 4 → (d : ℕ) → 1 ≤ d → d ≤ 4 → P d
@@ -213,7 +214,7 @@ module _ {b : List ℕ} (K : Known b (9 ∷ 16 ∷ 8 ∷ 4 ∷ []) Stuck) {v : �
   added-drawn : DrawIs b v
   added-drawn =
       draw K ∙ ap (end_of b (Accepted Stuck ∷ Accepted (opened 3) ∷ None ∷ None ∷ [])) A.records
-      ∙ (λ j. value (record { 0 = A.recovers j }))
+      ∙ (λ j. Ok (record { 0 = A.recovers j }))
 
   other-added : OtherAdded b
   other-added = record { reached = reached K; carried = carried K; stuck = first-stuck; enough = added-enough }

@@ -7,7 +7,7 @@ use native.Mathlib.Omega.{arith}
 use lib.Dec.{eqb}
 use Rattle.words.specs.Choice.{pick}
 use Rattle.words.specs.Lists.{map, all, up_from, entry}
-use Rattle.words.specs.Checks.{Outcome, refused, is_value, refusal}
+use Rattle.words.specs.Checks.{Outcome, refusal}
 use Rattle.words.specs.Bytes.{word_at, word_bytes, words_bytes, record_bytes, record_in, records_in, record_at, agrees}
 use Rattle.field.specs.Residue.{add, mul, sub, inv}
 use Rattle.field.specs.Polynomial.{value_at}
@@ -36,6 +36,8 @@ use Rattle.demand3.specs.Claims.{power_of_h}
 use Rattle.conditions.specs.Boards.{opened_board, silent_board, forged_board, uncarried_low, uncarried_high, added_board, forged_added}
 use Rattle.conditions.specs.Claims.{polynomial_of}
 use Rattle.conditions.proofs.Answers.{answers}
+use Rattle.std.specs.Prelude.{Err, is_ok}
+use Rattle.words.specs.declared.refusal.Refusal.TheVariants.{DegreeFails}
 
 abbrev pub opened : ℕ → Secret
 opened v = Opened (record { 0 = v })
@@ -71,10 +73,10 @@ from_records b is = secret_from (from_lowest small b is)
 
 -- the records 13 and 14, so far as they are accepted
 abbrev last : Outcome Element → List ℕ
-last a = pick (is_value a) (14 ∷ []) []
+last a = pick (is_ok a) (14 ∷ []) []
 
 abbrev last_two : Outcome Element → Outcome Element → List ℕ
-last_two a c = pick (is_value a) (13 ∷ last c) (last c)
+last_two a c = pick (is_ok a) (13 ∷ last c) (last c)
 
 -- ---- added shares, where the dealings of 1 and 2 alone are accepted
 pub two-accepted : {b vs : List ℕ} {s : Secret} → Known b vs s → accepted_dealers judges small b ≡ 1 ∷ 2 ∷ []
@@ -109,15 +111,15 @@ pub record AllKnown : Type 0 where
   pub high-true : every_share uncarried_high (is_true_to_line uncarried_high) ≡ true
   pub added-known : Known added_board (9 ∷ 16 ∷ 8 ∷ 4 ∷ []) Stuck
   pub added-forged-known : Known forged_added (9 ∷ 16 ∷ 8 ∷ 4 ∷ []) Stuck
-  pub not-passed : degree_in small (9 ∷ 16 ∷ 4 ∷ 18 ∷ []) (1 ∷ 0 ∷ []) ≡ refused 9
+  pub not-passed : degree_in small (9 ∷ 16 ∷ 4 ∷ 18 ∷ []) (1 ∷ 0 ∷ []) ≡ Err DegreeFails
   pub second-carried : Carries small (polynomial_of 2) (6 ∷ 18 ∷ 8 ∷ 1 ∷ [])
 
 pub all_known : AllKnown
 unfolding word_at word_bytes words_bytes record_bytes record_in add mul sub inv pow groups_of group_of is_element is_exponent is_member gaps_at weight_at weights_of lagrange_at powers_product degree_product degree_figures degree_equation degree_in recovered is_opening opening_figures opening_equation opening_in powers_at agrees entry record_at is_generator is_key key_checks v_in Y_in vs_in is_shaped is_below form_checks place_of is_at record_place key_in board_key_checks board_checks line_count lines_of is_accepted encrypted_of share_answer is_share_in shares_in from_lowest from_shares is_opened secret_by verdict_on
 all_known =
-    let first = ap is_value answers.first in
-    let uncarried = ap is_value answers.uncarried in
-    let second = ap is_value answers.second in
+    let first = ap is_ok answers.first in
+    let uncarried = ap is_ok answers.uncarried in
+    let second = ap is_ok answers.second in
     record {
       opened-known = known opened_board refl first second refl refl (refl, refl) (refl, refl) (refl, refl);
       silent-known = known silent_board refl first second (λ j. from_records silent_board (last_two (answers.share-1 j) (answers.share-2 j))) refl

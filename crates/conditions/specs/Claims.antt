@@ -1,9 +1,9 @@
 -- Why the conditions of the sentence on two boards stand: there are boards that meet them all, and without either of the two that the
 -- judges do not test, that polynomials carry the dealings and that accepted shares are true, two boards may end in two draws. The same of
 -- added shares.
-use Rattle.std.specs.Prelude.{◌≡◌, true, List, [], ◌∷◌, ℕ, ◌<◌, ◌≤◌, eqb, length}
+use Rattle.std.specs.Prelude.{◌≡◌, true, List, [], ◌∷◌, ℕ, ◌<◌, ◌≤◌, eqb, length, Ok}
 use Rattle.words.specs.Choice.{pick}
-use Rattle.words.specs.Checks.{value, Met}
+use Rattle.words.specs.Checks.{Met}
 use Rattle.words.specs.Bytes.{records_in, record_at}
 use Rattle.group.specs.Power.{pow}
 use Rattle.sharing.specs.Setting.{ProperSetting}
@@ -25,7 +25,7 @@ polynomial_of d = pick (eqb d 1) (3 ∷ 5 ∷ []) (6 ∷ 4 ∷ [])
 
 -- what the board judge answers for a board of group 1 with n = 4 and t = 2, whose setting is that of all these claims
 abbrev pub DrawIs : List ℕ → ℕ → Type 0
-DrawIs b v = draw_outcome judges [] small_round b ≡ value (record { 0 = v })
+DrawIs b v = draw_outcome judges [] small_round b ≡ Ok (record { 0 = v })
 
 -- ---- the conditions are met: where the first dealer has opened and where he is silent, the draw is 2
 pub record ConditionsMet : Type 0 where

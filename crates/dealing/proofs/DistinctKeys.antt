@@ -4,7 +4,7 @@ use mathlib.Core.List.{List, ◌++◌}
 use Prim.Native.Nat.{ℕ}
 use lib.ListN.{length}
 use Rattle.words.specs.Lists.{Distinct}
-use Rattle.words.specs.Checks.{Check, Outcome, refused, refusal, if_met, without, MetBy}
+use Rattle.words.specs.Checks.{Check, Outcome, refusal, if_met, without, MetBy}
 use Rattle.words.proofs.Stages.{stages-outcome, stages-choice}
 use Rattle.words.proofs.Without.{without-outcome, without-choice, others-met}
 use Rattle.sharing.specs.Setting.{setting_in, round_checks, judged, judged_else}
@@ -16,6 +16,8 @@ use Rattle.lines.specs.Lines.{address_checks, line_checks}
 use Rattle.dealing.specs.Dealing.{write_size_checks, secret_checks, write_dealing_checks, written_dealing, write_dealing_outcome, lent_dealing}
 use Rattle.dealing.specs.Dealing.{judge_size_checks, dealing_form_checks, range_checks, equation_checks, line_figure_checks, judge_dealing_checks, judge_dealing_in, judge_dealing_outcome}
 use Rattle.dealing.specs.Claims.{DistinctKeys, JudgedDistinct}
+use Rattle.std.specs.Prelude.{Err}
+use Rattle.words.specs.declared.refusal.Refusal.TheVariants.{SameKey}
 
 -- ---- an operation over a table and a round, where each of its own checks of the number k is met
 module _ {A : Type 0} (k : ℕ) (T : List ℕ) (R : Round) (checks : Setting → List Check) (answer : Setting → A) (m : MetBy k (checks (setting_in T R))) where
@@ -32,7 +34,7 @@ module _ {A : Type 0} (k : ℕ) (T : List ℕ) (R : Round) (checks : Setting →
   unfolding judged
   judged-without =
       stages-outcome A front own new
-      ∙ ap (λ (o : Outcome A). if_met front o (refused (refusal front))) (without-outcome A k own new m)
+      ∙ ap (λ (o : Outcome A). if_met front o (Err (refusal front))) (without-outcome A k own new m)
       ∙ sym (stages-outcome A front (without k own) new)
 
   pub lent-without : (old : A) → judged_else T R checks answer old ≡ judged_else T R (λ S. without k (checks S)) answer old
@@ -44,14 +46,14 @@ module _ {A : Type 0} (k : ℕ) (T : List ℕ) (R : Round) (checks : Setting →
 
 -- ---- the stages but for the keys refuse by other numbers
 module _ (S : Setting) (d : ℕ) (ys : List ℕ) (n : Distinct ys) where
-  judge-met : (b : List ℕ) → MetBy 22 (judge_dealing_checks S d ys b)
+  judge-met : (b : List ℕ) → MetBy SameKey (judge_dealing_checks S d ys b)
   unfolding key_checks address_checks judge_size_checks line_checks dealing_form_checks range_checks equation_checks
   judge-met b =
       let front = address_checks S d ++ judge_size_checks S ys b in
       let behind = line_checks S d b ++ line_figure_checks S d ys b in
       distinct-met S.group ys n front behind (others-met 22 front refl) (others-met 22 behind refl)
 
-  write-met : (f ws : List ℕ) (room : ℕ) → MetBy 22 (write_dealing_checks S d ys f ws room)
+  write-met : (f ws : List ℕ) (room : ℕ) → MetBy SameKey (write_dealing_checks S d ys f ws room)
   unfolding address_checks write_size_checks secret_checks
   write-met f ws room =
       let front = address_checks S d ++ write_size_checks S ys f ws room in

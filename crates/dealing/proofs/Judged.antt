@@ -8,7 +8,7 @@ use Prim.Native.Nat.{ℕ, ◌≤◌}
 use borrow.Author.Tests.{eqb-true, eq-eqb, ne_eqb}
 use lib.Dec.{eqb}
 use Rattle.words.specs.Lists.{all}
-use Rattle.words.specs.Checks.{Check, value, outcome, Met, FirstUnmet}
+use Rattle.words.specs.Checks.{Check, outcome, Met, FirstUnmet}
 use Rattle.words.proofs.Lists.{map-length, map-all, up-length}
 use Rattle.words.proofs.Tests.{and-true, true-and, equal-true, true-equal, true-all}
 use Rattle.words.proofs.Checks.{value-exactly, refused-exactly}
@@ -31,6 +31,8 @@ use Rattle.lines.specs.Lines.{address_checks, v_in, Y_in, r_in, c_in, vs_in, is_
 use Rattle.dealing.specs.Dealing.{judge_size_checks, dealing_form_checks, recomputed, range_checks, equation_checks, line_figure_checks, judge_dealing_checks, judge_dealing_in}
 use Rattle.dealing.specs.Claims.{Line, PostedDealing, AcceptedDealing, DealingExactly, EquationRefused, DealingRefused, DealingOfOtherRound, AcceptedPasses, AcceptedUncarried}
 use Rattle.dealing.proofs.Settled.{FormedDealing, met-formed, formed-met}
+use Rattle.std.specs.Prelude.{Ok}
+use Rattle.words.specs.declared.refusal.Refusal.TheVariants.{OtherRound}
 
 module _ (S : Setting) (d : ℕ) (ys b : List ℕ) where
   abbrev G : Group
@@ -133,7 +135,7 @@ module _ (S : Setting) (d : ℕ) (ys b : List ℕ) where
         }
 
   -- ---- accepted
-  dealing-accepted : judge_dealing_in S d ys b ≡ value tt → AcceptedDealing S d ys b
+  dealing-accepted : judge_dealing_in S d ys b ≡ Ok tt → AcceptedDealing S d ys b
   unfolding judge_dealing_in equation_checks vs_in
   dealing-accepted e =
       let m = met-both form (ranges ++ equations) ((value-exactly Unit (judge_dealing_checks S d ys b) tt).0 e) in
@@ -145,7 +147,7 @@ module _ (S : Setting) (d : ℕ) (ys b : List ℕ) where
         challenge = λ i h l. eqb-true (c_in b i) _ (equal i h l);
       }
 
-  pub accepts-dealing : AcceptedDealing S d ys b → judge_dealing_in S d ys b ≡ value tt
+  pub accepts-dealing : AcceptedDealing S d ys b → judge_dealing_in S d ys b ≡ Ok tt
   unfolding equation_checks vs_in
   accepts-dealing A =
       equations-decide A.posted
@@ -175,7 +177,7 @@ dealing-of-other-round S d ys b before i h l n =
     let front = address_checks S d ++ judge_size_checks S ys b in
     let keys = key_checks S.group ys in
     let other = members-false (is_line_of_round S.round b) S.n i h l (ne_eqb (round_of (member_record b i)) S.round n) in
-    let lines : FirstUnmet 17 (line_checks S d b) = inr (before.form, inl (other, refl)) in
+    let lines : FirstUnmet OtherRound (line_checks S d b) = inr (before.form, inl (other, refl)) in
     let behind = rest-first keys (line_checks S d b) 17 before.keys lines in
     let formed = rest-first front (keys ++ line_checks S d b) 17 before.front behind in
     sym (front-outcome (dealing_form_checks S d ys b) (line_figure_checks S d ys b) 17 formed tt)

@@ -7,7 +7,7 @@ use Prim.Native.Nat.{ℕ, ◌*◌, ◌^◌, ◌≤◌, ◌<◌}
 use native.Mathlib.Omega.{arith}
 use lib.ListN.{length}
 use Rattle.words.specs.Lists.{Below, entry}
-use Rattle.words.specs.Checks.{Check, value, refused, Met}
+use Rattle.words.specs.Checks.{Check, Met}
 use Rattle.words.specs.Bytes.{record_words}
 use Rattle.words.specs.declared.Record.{Record}
 use Rattle.words.proofs.Lists.{map_same, up-length, entry-all}
@@ -40,8 +40,10 @@ use Rattle.dealing.specs.Claims.{Line, DegreeEquation, AcceptedDealing, DealingC
 use Rattle.dealing.proofs.Entries.{challenge-same}
 use Rattle.dealing.proofs.Settled.{WritableDealing, writable}
 use Rattle.dealing.proofs.Judged.{accepts-dealing, posted-formed, dealing-of-other-round}
+use Rattle.std.specs.Prelude.{Ok, Err}
+use Rattle.words.specs.declared.refusal.Refusal.TheVariants.{OtherRound}
 
-pub value-writable : (S : Setting) (d : ℕ) (ys f ws : List ℕ) (room : ℕ) → write_dealing_in S d ys f ws room ≡ value tt → WritableDealing S d ys f ws
+pub value-writable : (S : Setting) (d : ℕ) (ys f ws : List ℕ) (room : ℕ) → write_dealing_in S d ys f ws room ≡ Ok tt → WritableDealing S d ys f ws
 unfolding write_dealing_in
 value-writable S d ys f ws room e =
     (writable S d ys f ws room ((value-exactly Unit (write_dealing_checks S d ys f ws room) tt).0 e)).0
@@ -182,7 +184,7 @@ module _ (S : Setting) (P : ProperSetting S) (word : S.round < 2 ^ 32) (d : ℕ)
       }
 
   -- in the round of another number, under either rule
-  pub refused-elsewhere : (round : ℕ) → (round ≡ S.round → ⊥) → (whole : Bool) → judge_dealing_in (in_round round whole S) d ys bytes ≡ refused 17
+  pub refused-elsewhere : (round : ℕ) → (round ≡ S.round → ⊥) → (whole : Bool) → judge_dealing_in (in_round round whole S) d ys bytes ≡ Err OtherRound
   unfolding address_checks judge_size_checks line_checks
   refused-elsewhere round n whole =
       let some = P.n-positive in
@@ -192,7 +194,7 @@ module _ (S : Setting) (P : ProperSetting S) (word : S.round < 2 ^ 32) (d : ℕ)
       (record { front = ((member-exactly S.n d).1 F.dealer, (sizes, tt)); keys = F.keys; form = F.lines.0 })
       1 (omega arith) (omega arith) (λ e. n (sym e ∙ (line-proper 1 (omega arith) (omega arith)).round))
 
-  pub accepted : judge_dealing_in S d ys bytes ≡ value tt
+  pub accepted : judge_dealing_in S d ys bytes ≡ Ok tt
   accepted = accepts-dealing S d ys bytes written-accepted
 
 pub dealing-complete : DealingComplete
@@ -225,21 +227,21 @@ lent-dealing-kept S d ys f ws out k e =
 -- ---- over a round
 -- a refusal over a round leaves the lent bytes
 refused-kept : (T : List ℕ) (R : Round) (checks : Setting → List Check) (new : Setting → List ℕ) (old : List ℕ) (k : ℕ)
-    → judged T R checks (λ S. tt {0}) ≡ refused k → judged_else T R checks new old ≡ old
+    → judged T R checks (λ S. tt {0}) ≡ Err k → judged_else T R checks new old ≡ old
 unfolding judged judged_else
 refused-kept T R checks new old k e =
     let cs = round_checks T R ++ checks (setting_in T R) in
     if-unmet (new (setting_in T R)) old cs k ((refused-exactly Unit cs tt k).0 e)
 
 -- what is written over a table and a round, and judged over them or in a round of other numbers
-module _ (T : List ℕ) (R : Round) (d : ℕ) (ys f ws out : List ℕ) (e : write_dealing_outcome T R d ys f ws (length out) ≡ value tt) where
+module _ (T : List ℕ) (R : Round) (d : ℕ) (ys f ws out : List ℕ) (e : write_dealing_outcome T R d ys f ws (length out) ≡ Ok tt) where
   abbrev within : Setting
   within = setting_in T R
 
   abbrev checks : Setting → List Check
   checks S = write_dealing_checks S d ys f ws (length out)
 
-  settled : Met (round_checks T R) × (write_dealing_in within d ys f ws (length out) ≡ value tt)
+  settled : Met (round_checks T R) × (write_dealing_in within d ys f ws (length out) ≡ Ok tt)
   unfolding write_dealing_outcome write_dealing_in
   settled = (judged-exactly T R checks (λ S. tt) tt).0 e
 
@@ -263,11 +265,11 @@ module _ (T : List ℕ) (R : Round) (d : ℕ) (ys f ws out : List ℕ) (e : writ
     abbrev figures : WritableDealing within d ys f ws
     figures = value-writable within d ys f ws (length out) settled.1
 
-    complete : judge_dealing_outcome T R d ys (lent_dealing T R d ys f ws out) ≡ value tt
+    complete : judge_dealing_outcome T R d ys (lent_dealing T R d ys f ws out) ≡ Ok tt
     complete = judged-lines R settled.0 ∙ accepted within proper k d ys f ws figures
 
     for-other-round : (round first : ℕ) → (round ≡ R.round → ⊥)
-        → judge_dealing_outcome T (with_numbers round first R) d ys (lent_dealing T R d ys f ws out) ≡ refused 17
+        → judge_dealing_outcome T (with_numbers round first R) d ys (lent_dealing T R d ys f ws out) ≡ Err OtherRound
     unfolding round_checks round_figures
     for-other-round round first n =
         judged-lines (with_numbers round first R) settled.0

@@ -1,8 +1,8 @@
 -- What is claimed of dealings, judged and written: demand 2 for what a dealer posts, and what it gives demand 3. The claims are over a
 -- setting, and DealingByRound reads them off over a table and a round; DistinctKeys speaks of these at once.
-use Rattle.std.specs.Prelude.{◌≡◌, Bool, true, List, ◌++◌, ◌↔◌, ℕ, ◌*◌, ◌^◌, ◌<◌, ◌≤◌, length, get_or}
+use Rattle.std.specs.Prelude.{◌≡◌, Bool, true, List, ◌++◌, ◌↔◌, ℕ, ◌*◌, ◌^◌, ◌<◌, ◌≤◌, length, get_or, Ok, Err}
 use Rattle.words.specs.Lists.{Distinct, all}
-use Rattle.words.specs.Checks.{Outcome, value, refused, outcome, Met, without}
+use Rattle.words.specs.Checks.{Outcome, outcome, Met, without}
 use Rattle.group.specs.Element.{is_element}
 use Rattle.sharing.specs.Setting.{ProperSetting, setting_in, in_round, with_numbers, round_checks, judged, judged_else, members}
 use Rattle.sharing.specs.Answer.{degree_product}
@@ -16,6 +16,7 @@ use Rattle.challenge.specs.Message.{check_polynomial}
 use Rattle.lines.specs.Lines.{address_checks, is_line_of, v_in, Y_in, r_in, c_in, vs_in}
 use Rattle.dealing.specs.Dealing.{judge_size_checks, judge_dealing_checks, judge_dealing_in, judge_dealing_outcome, recomputed}
 use Rattle.dealing.specs.Dealing.{written_dealing, write_size_checks, write_dealing_checks, write_dealing_in, write_dealing_outcome, lent_dealing_in, lent_dealing}
+use Rattle.words.specs.declared.refusal.Refusal.TheVariants.{DegreeFails, ProofFails, OtherRound, SameKey}
 
 -- ---- a posted dealing
 -- the line of member i: its form and its figures
@@ -52,12 +53,12 @@ pub record AcceptedDealing (S : Setting) (d : ℕ) (ys b : List ℕ) : Type 0 wh
 
 -- a dealing is accepted exactly if every equation between posted figures holds
 abbrev pub DealingExactly : Type 0
-DealingExactly = (S : Setting) (d : ℕ) (ys b : List ℕ) → (judge_dealing_in S d ys b ≡ value tt) ↔ AcceptedDealing S d ys b
+DealingExactly = (S : Setting) (d : ℕ) (ys b : List ℕ) → (judge_dealing_in S d ys b ≡ Ok tt) ↔ AcceptedDealing S d ys b
 
 -- where an equation fails, the number says which: 9 the degree check's, and else 10 a line's
 pub record EquationRefused (S : Setting) (d : ℕ) (ys b : List ℕ) : Type 0 where
-  pub nine : (DegreeEquation S d b → ⊥) → judge_dealing_in S d ys b ≡ refused 9
-  pub ten : DegreeEquation S d b → (i : ℕ) → 1 ≤ i → i ≤ S.n → (LineEquation S d ys b i → ⊥) → judge_dealing_in S d ys b ≡ refused 10
+  pub nine : (DegreeEquation S d b → ⊥) → judge_dealing_in S d ys b ≡ Err DegreeFails
+  pub ten : DegreeEquation S d b → (i : ℕ) → 1 ≤ i → i ≤ S.n → (LineEquation S d ys b i → ⊥) → judge_dealing_in S d ys b ≡ Err ProofFails
 
 abbrev pub DealingRefused : Type 0
 DealingRefused = (S : Setting) (d : ℕ) (ys b : List ℕ) → PostedDealing S d ys b → EquationRefused S d ys b
@@ -68,28 +69,28 @@ DealingRefused = (S : Setting) (d : ℕ) (ys b : List ℕ) → PostedDealing S d
 abbrev pub JudgedKeyTwice : Type 0
 JudgedKeyTwice =
     (S : Setting) (d : ℕ) (ys b : List ℕ) → Met (address_checks S d ++ judge_size_checks S ys b) → KeyTwice S.group ys
-    → judge_dealing_in S d ys b ≡ refused 22
+    → judge_dealing_in S d ys b ≡ Err SameKey
 
 abbrev pub WrittenKeyTwice : Type 0
 WrittenKeyTwice =
     (S : Setting) (d : ℕ) (ys f ws : List ℕ) (room : ℕ) → Met (address_checks S d ++ write_size_checks S ys f ws room) → KeyTwice S.group ys
-    → write_dealing_in S d ys f ws room ≡ refused 22
+    → write_dealing_in S d ys f ws room ≡ Err SameKey
 
 -- ---- distinct keys
 -- the judge without 22, in a setting and over a table and a round
 abbrev pub judge_without22_in : Setting → ℕ → List ℕ → List ℕ → Outcome (Unit {0})
-judge_without22_in S d ys b = outcome (without 22 (judge_dealing_checks S d ys b)) tt
+judge_without22_in S d ys b = outcome (without SameKey (judge_dealing_checks S d ys b)) tt
 
 abbrev pub judge_without22 : List ℕ → Round → ℕ → List ℕ → List ℕ → Outcome (Unit {0})
-judge_without22 T R d ys b = judged T R (λ S. without 22 (judge_dealing_checks S d ys b)) (λ S. tt)
+judge_without22 T R d ys b = judged T R (λ S. without SameKey (judge_dealing_checks S d ys b)) (λ S. tt)
 
 -- the writer without 22, and what it leaves in the lent bytes
 abbrev pub write_without22 : List ℕ → Round → ℕ → List ℕ → List ℕ → List ℕ → ℕ → Outcome (Unit {0})
-write_without22 T R d ys f ws room = judged T R (λ S. without 22 (write_dealing_checks S d ys f ws room)) (λ S. tt)
+write_without22 T R d ys f ws room = judged T R (λ S. without SameKey (write_dealing_checks S d ys f ws room)) (λ S. tt)
 
 abbrev pub lent_without22 : List ℕ → Round → ℕ → List ℕ → List ℕ → List ℕ → List ℕ → List ℕ
 lent_without22 T R d ys f ws out =
-    judged_else T R (λ S. without 22 (write_dealing_checks S d ys f ws (length out))) (λ S. written_dealing S d ys f ws) out
+    judged_else T R (λ S. without SameKey (write_dealing_checks S d ys f ws (length out))) (λ S. written_dealing S d ys f ws) out
 
 -- with distinct keys judge and writer do what they would do without 22, over whatever table and round
 pub record Without22 (T : List ℕ) (R : Round) (d : ℕ) (ys : List ℕ) : Type 0 where
@@ -115,20 +116,20 @@ pub record DealingUpToRound (S : Setting) (d : ℕ) (ys b : List ℕ) : Type 0 w
 abbrev pub DealingOfOtherRound : Type 0
 DealingOfOtherRound =
     (S : Setting) (d : ℕ) (ys b : List ℕ) → DealingUpToRound S d ys b → (i : ℕ) → 1 ≤ i → i ≤ S.n → (round_of (member_record b i) ≡ S.round → ⊥)
-    → judge_dealing_in S d ys b ≡ refused 17
+    → judge_dealing_in S d ys b ≡ Err OtherRound
 
 -- ---- from posted figures to demand 3
 -- an accepted dealing has n elements as commitments, for which the judge's own check polynomial passes
 abbrev pub AcceptedPasses : Type 0
 AcceptedPasses =
-    (S : Setting) → ProperSetting S → (d : ℕ) (ys b : List ℕ) → judge_dealing_in S d ys b ≡ value tt
+    (S : Setting) → ProperSetting S → (d : ℕ) (ys b : List ℕ) → judge_dealing_in S d ys b ≡ Ok tt
     → Commitments S (vs_in S.n b) × Passes S (vs_in S.n b) (check_polynomial S d (v_in b) (Y_in b))
 
 -- where no polynomial carries an accepted dealing, the judge's own check polynomial has, at the place that the commitments fix,
 -- the one value that passes: what a dealer must hit
 abbrev pub AcceptedUncarried : Type 0
 AcceptedUncarried =
-    (S : Setting) → ProperSetting S → (d : ℕ) (ys b : List ℕ) → judge_dealing_in S d ys b ≡ value tt
+    (S : Setting) → ProperSetting S → (d : ℕ) (ys b : List ℕ) → judge_dealing_in S d ys b ≡ Ok tt
     → ((f : List ℕ) → Carries S f (vs_in S.n b) → ⊥)
     → (ds : List ℕ) → Passes S (vs_in S.n b) ds
     → AgreeOff (place S (vs_in S.n b)) ds (check_polynomial S d (v_in b) (Y_in b))
@@ -138,47 +139,47 @@ AcceptedUncarried =
 -- what is written from proper figures is accepted with the same keys
 abbrev pub DealingComplete : Type 0
 DealingComplete =
-    (S : Setting) → ProperSetting S → S.round < 2 ^ 32 → (d : ℕ) (ys f ws : List ℕ) → write_dealing_in S d ys f ws (32 * S.n) ≡ value tt
-    → judge_dealing_in S d ys (written_dealing S d ys f ws) ≡ value tt
+    (S : Setting) → ProperSetting S → S.round < 2 ^ 32 → (d : ℕ) (ys f ws : List ℕ) → write_dealing_in S d ys f ws (32 * S.n) ≡ Ok tt
+    → judge_dealing_in S d ys (written_dealing S d ys f ws) ≡ Ok tt
 
 -- in the round that it is written for: in every other, under either rule, it is refused by 17
 abbrev pub WrittenForOtherRound : Type 0
 WrittenForOtherRound =
-    (S : Setting) → ProperSetting S → S.round < 2 ^ 32 → (d : ℕ) (ys f ws : List ℕ) → write_dealing_in S d ys f ws (32 * S.n) ≡ value tt
+    (S : Setting) → ProperSetting S → S.round < 2 ^ 32 → (d : ℕ) (ys f ws : List ℕ) → write_dealing_in S d ys f ws (32 * S.n) ≡ Ok tt
     → (round : ℕ) → (round ≡ S.round → ⊥) → (whole : Bool)
-    → judge_dealing_in (in_round round whole S) d ys (written_dealing S d ys f ws) ≡ refused 17
+    → judge_dealing_in (in_round round whole S) d ys (written_dealing S d ys f ws) ≡ Err OtherRound
 
 -- and its polynomial carries it
 abbrev pub WrittenCarried : Type 0
 WrittenCarried =
-    (S : Setting) → ProperSetting S → S.round < 2 ^ 32 → (d : ℕ) (ys f ws : List ℕ) → write_dealing_in S d ys f ws (32 * S.n) ≡ value tt
+    (S : Setting) → ProperSetting S → S.round < 2 ^ 32 → (d : ℕ) (ys f ws : List ℕ) → write_dealing_in S d ys f ws (32 * S.n) ≡ Ok tt
     → Carries S f (vs_in S.n (written_dealing S d ys f ws))
 
 -- one polynomial, written for two rounds, has the same commitments in both, under whatever rules
 abbrev pub SameCommitments : Type 0
 SameCommitments =
-    (S : Setting) → ProperSetting S → S.round < 2 ^ 32 → (d : ℕ) (ys f ws : List ℕ) → write_dealing_in S d ys f ws (32 * S.n) ≡ value tt
-    → (round : ℕ) → round < 2 ^ 32 → (whole : Bool) (us : List ℕ) → write_dealing_in (in_round round whole S) d ys f us (32 * S.n) ≡ value tt
+    (S : Setting) → ProperSetting S → S.round < 2 ^ 32 → (d : ℕ) (ys f ws : List ℕ) → write_dealing_in S d ys f ws (32 * S.n) ≡ Ok tt
+    → (round : ℕ) → round < 2 ^ 32 → (whole : Bool) (us : List ℕ) → write_dealing_in (in_round round whole S) d ys f us (32 * S.n) ≡ Ok tt
     → vs_in S.n (written_dealing S d ys f ws) ≡ vs_in S.n (written_dealing (in_round round whole S) d ys f us)
 
 -- the lent bytes are accepted where nothing is refused
 abbrev pub LentDealing : Type 0
 LentDealing =
-    (S : Setting) → ProperSetting S → S.round < 2 ^ 32 → (d : ℕ) (ys f ws out : List ℕ) → write_dealing_in S d ys f ws (length out) ≡ value tt
-    → judge_dealing_in S d ys (lent_dealing_in S d ys f ws out) ≡ value tt
+    (S : Setting) → ProperSetting S → S.round < 2 ^ 32 → (d : ℕ) (ys f ws out : List ℕ) → write_dealing_in S d ys f ws (length out) ≡ Ok tt
+    → judge_dealing_in S d ys (lent_dealing_in S d ys f ws out) ≡ Ok tt
 
 -- and stay as they were where a number is refused
 abbrev pub LentDealingKept : Type 0
 LentDealingKept =
-    (S : Setting) (d : ℕ) (ys f ws out : List ℕ) (k : ℕ) → write_dealing_in S d ys f ws (length out) ≡ refused k
+    (S : Setting) (d : ℕ) (ys f ws out : List ℕ) (k : ℕ) → write_dealing_in S d ys f ws (length out) ≡ Err k
     → lent_dealing_in S d ys f ws out ≡ out
 
 -- ---- over a table and a round
 -- nothing is accepted or written where their checks refuse; else judge and writer do what they do in their setting, which is proper
 pub record DealingOverRound (T : List ℕ) (R : Round) : Type 0 where
-  pub judged-met : (d : ℕ) (ys b : List ℕ) → judge_dealing_outcome T R d ys b ≡ value tt → Met (round_checks T R)
-  pub written-met : (d : ℕ) (ys f ws : List ℕ) (room : ℕ) → write_dealing_outcome T R d ys f ws room ≡ value tt → Met (round_checks T R)
-  pub kept : (d : ℕ) (ys f ws out : List ℕ) (k : ℕ) → write_dealing_outcome T R d ys f ws (length out) ≡ refused k
+  pub judged-met : (d : ℕ) (ys b : List ℕ) → judge_dealing_outcome T R d ys b ≡ Ok tt → Met (round_checks T R)
+  pub written-met : (d : ℕ) (ys f ws : List ℕ) (room : ℕ) → write_dealing_outcome T R d ys f ws room ≡ Ok tt → Met (round_checks T R)
+  pub kept : (d : ℕ) (ys f ws out : List ℕ) (k : ℕ) → write_dealing_outcome T R d ys f ws (length out) ≡ Err k
       → lent_dealing T R d ys f ws out ≡ out
   pub proper : Met (round_checks T R) → ProperSetting (setting_in T R)
   pub judged-in : Met (round_checks T R) → (d : ℕ) (ys b : List ℕ) → judge_dealing_outcome T R d ys b ≡ judge_dealing_in (setting_in T R) d ys b
@@ -187,19 +188,19 @@ pub record DealingOverRound (T : List ℕ) (R : Round) : Type 0 where
   pub lent-in : Met (round_checks T R) → (d : ℕ) (ys f ws out : List ℕ)
       → lent_dealing T R d ys f ws out ≡ lent_dealing_in (setting_in T R) d ys f ws out
   -- what is written is accepted by a judge that takes the same figures of the round: its number, and the first round under the new rule
-  pub complete : R.round < 2 ^ 32 → (d : ℕ) (ys f ws out : List ℕ) → write_dealing_outcome T R d ys f ws (length out) ≡ value tt
-      → judge_dealing_outcome T R d ys (lent_dealing T R d ys f ws out) ≡ value tt
+  pub complete : R.round < 2 ^ 32 → (d : ℕ) (ys f ws out : List ℕ) → write_dealing_outcome T R d ys f ws (length out) ≡ Ok tt
+      → judge_dealing_outcome T R d ys (lent_dealing T R d ys f ws out) ≡ Ok tt
   -- in the round of any other number it is refused by 17, whichever round is the first under the new rule
-  pub for-other-round : R.round < 2 ^ 32 → (d : ℕ) (ys f ws out : List ℕ) → write_dealing_outcome T R d ys f ws (length out) ≡ value tt
+  pub for-other-round : R.round < 2 ^ 32 → (d : ℕ) (ys f ws out : List ℕ) → write_dealing_outcome T R d ys f ws (length out) ≡ Ok tt
       → (round first : ℕ) → (round ≡ R.round → ⊥)
-      → judge_dealing_outcome T (with_numbers round first R) d ys (lent_dealing T R d ys f ws out) ≡ refused 17
+      → judge_dealing_outcome T (with_numbers round first R) d ys (lent_dealing T R d ys f ws out) ≡ Err OtherRound
   -- and so is every dealing with a line of another round, where nothing earlier refuses it
   pub of-other-round : Met (round_checks T R) → (d : ℕ) (ys b : List ℕ) → DealingUpToRound (setting_in T R) d ys b
-      → (i : ℕ) → 1 ≤ i → i ≤ R.n → (round_of (member_record b i) ≡ R.round → ⊥) → judge_dealing_outcome T R d ys b ≡ refused 17
+      → (i : ℕ) → 1 ≤ i → i ≤ R.n → (round_of (member_record b i) ≡ R.round → ⊥) → judge_dealing_outcome T R d ys b ≡ Err OtherRound
   -- one polynomial, written for two rounds, has the same commitments in both, whichever rounds are the first under the new rule
-  pub same-commitments : R.round < 2 ^ 32 → (d : ℕ) (ys f ws out : List ℕ) → write_dealing_outcome T R d ys f ws (length out) ≡ value tt
+  pub same-commitments : R.round < 2 ^ 32 → (d : ℕ) (ys f ws out : List ℕ) → write_dealing_outcome T R d ys f ws (length out) ≡ Ok tt
       → (round first : ℕ) → round < 2 ^ 32 → (us other : List ℕ)
-      → write_dealing_outcome T (with_numbers round first R) d ys f us (length other) ≡ value tt
+      → write_dealing_outcome T (with_numbers round first R) d ys f us (length other) ≡ Ok tt
       → vs_in R.n (lent_dealing T R d ys f ws out) ≡ vs_in R.n (lent_dealing T (with_numbers round first R) d ys f us other)
 
 abbrev pub DealingByRound : Type 0

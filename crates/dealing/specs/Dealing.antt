@@ -1,7 +1,6 @@
 -- A dealing as it is written, and as it is judged: definitions over a setting, and over a round, whose own checks come first.
 use Rattle.std.specs.Prelude.{◌&&◌, List, [], ◌∷◌, ◌++◌, ℕ, ◌*◌, length, eqb}
 use Rattle.words.specs.Lists.{map, all, entry}
-use Rattle.words.specs.Numbers.{bad_length, no_element, no_exponent, degree_fails, proof_fails}
 use Rattle.words.specs.Checks.{Check, ◌unless◌, Outcome, outcome, if_met}
 use Rattle.words.specs.declared.Record.{Record}
 use Rattle.field.specs.Polynomial.{value_at}
@@ -17,6 +16,7 @@ use Rattle.records.specs.Keys.{key_checks}
 use Rattle.challenge.specs.Message.{challenge_of, dealing_message, check_polynomial}
 use Rattle.equality.specs.Equality.{announced, response}
 use Rattle.lines.specs.Lines.{address_checks, v_in, Y_in, r_in, c_in, line_checks}
+use Rattle.words.specs.declared.refusal.Refusal.TheVariants.{BadLength, NoElement, NoExponent, DegreeFails, ProofFails}
 
 -- ---- written: from the keys ys, the polynomial f and the nonces ws
 unfoldable pub written_v : Group → List ℕ → ℕ → ℕ
@@ -47,11 +47,11 @@ written_dealing S d ys f ws = records_bytes (written_line S d ys f ws (written_c
 -- n keys, t coefficients, n nonces, and room for n lines
 unfoldable pub write_size_checks : Setting → List ℕ → List ℕ → List ℕ → ℕ → List Check
 write_size_checks S ys f ws room =
-    bad_length unless (eqb (length ys) S.n && (eqb (length f) S.t && (eqb (length ws) S.n && eqb room (32 * S.n)))) ∷ []
+    BadLength unless (eqb (length ys) S.n && (eqb (length f) S.t && (eqb (length ws) S.n && eqb room (32 * S.n)))) ∷ []
 
 -- coefficients and nonces below q
 unfoldable pub secret_checks : Group → List ℕ → List ℕ → List Check
-secret_checks G f ws = no_exponent unless (all (is_exponent G) f && all (is_exponent G) ws) ∷ []
+secret_checks G f ws = NoExponent unless (all (is_exponent G) f && all (is_exponent G) ws) ∷ []
 
 -- with room for so many bytes
 abbrev pub write_dealing_checks : Setting → ℕ → List ℕ → List ℕ → List ℕ → ℕ → List Check
@@ -74,7 +74,7 @@ lent_dealing T R d ys f ws out = judged_else T R (λ S. write_dealing_checks S d
 -- ---- judged: before the figures
 -- n keys and n lines
 unfoldable pub judge_size_checks : Setting → List ℕ → List ℕ → List Check
-judge_size_checks S ys b = bad_length unless (eqb (length ys) S.n && eqb (length b) (32 * S.n)) ∷ []
+judge_size_checks S ys b = BadLength unless (eqb (length ys) S.n && eqb (length b) (32 * S.n)) ∷ []
 
 -- the stages before the figures
 unfoldable pub dealing_form_checks : Setting → ℕ → List ℕ → List ℕ → List Check
@@ -92,15 +92,15 @@ recomputed S d ys v Y r c =
 unfoldable pub range_checks : Setting → (ℕ → ℕ) → (ℕ → ℕ) → (ℕ → ℕ) → (ℕ → ℕ) → List Check
 range_checks S v Y r c =
     let is = members S.n in
-    no_element unless (all (λ i. is_element S.group (v i)) is && all (λ i. is_element S.group (Y i)) is)
-    ∷ no_exponent unless (all (λ i. is_exponent S.group (r i)) is && all (λ i. is_exponent S.group (c i)) is)
+    NoElement unless (all (λ i. is_element S.group (v i)) is && all (λ i. is_element S.group (Y i)) is)
+    ∷ NoExponent unless (all (λ i. is_exponent S.group (r i)) is && all (λ i. is_exponent S.group (c i)) is)
     ∷ []
 
 -- the judge's own check polynomial passes, and every challenge is the recomputed one
 unfoldable pub equation_checks : Setting → ℕ → List ℕ → (ℕ → ℕ) → (ℕ → ℕ) → (ℕ → ℕ) → (ℕ → ℕ) → List Check
 equation_checks S d ys v Y r c =
-    degree_fails unless eqb (degree_product S (map v (members S.n)) (check_polynomial S d v Y)) 1
-    ∷ proof_fails unless all (λ i. eqb (c i) (recomputed S d ys v Y r c)) (members S.n)
+    DegreeFails unless eqb (degree_product S (map v (members S.n)) (check_polynomial S d v Y)) 1
+    ∷ ProofFails unless all (λ i. eqb (c i) (recomputed S d ys v Y r c)) (members S.n)
     ∷ []
 
 abbrev pub figure_checks : Setting → ℕ → List ℕ → (ℕ → ℕ) → (ℕ → ℕ) → (ℕ → ℕ) → (ℕ → ℕ) → List Check

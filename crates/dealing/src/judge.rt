@@ -1,7 +1,7 @@
 // The judging of a dealing: the form of its lines, their figures, and the equations between them.
 ghost use Rattle.std.specs.Prelude.{◌≡◌, ◌&&◌, ◌*◌, ◌≤◌, eqb, length};
 ghost use Rattle.words.specs.Lists.{map, all, entry};
-ghost use Rattle.words.specs.Checks.{refusal, outcome, check_outcome_of};
+ghost use Rattle.words.specs.Checks.{outcome};
 ghost use Rattle.sharing.specs.Setting.{ProperSetting, members};
 ghost use Rattle.sharing.specs.Answer.{degree_product};
 ghost use Rattle.challenge.specs.Message.{check_polynomial};
@@ -14,10 +14,10 @@ use crate::LinesAnswer;
 use challenge::{check_polynomial, dealing_challenge};
 use equality::announced;
 use group::{Element, Exponent, all_elements, all_exponents};
-use lines::{Columns, lines_refusal, read_lines};
-use records::keys_refusal;
-use sharing::{Round, Setting, SettingAnswer, degree_passes, is_member, setting_of};
-use words::{CheckAnswer, passed_if, refusal};
+use lines::{Columns, check_lines, read_lines};
+use records::check_keys;
+use sharing::{Round, Setting, degree_passes, is_member, setting_of};
+use words::{Refusal, passed_if};
 
 // Whether there are n keys and n lines.
 fn sizes_fit(n: u32, ys: &[u32], lines: &[u8]) -> bool
@@ -27,21 +27,18 @@ fn sizes_fit(n: u32, ys: &[u32], lines: &[u8]) -> bool
     ys.len() == k && lines.len() == 32 * k
 }
 
-// The first number refused before the figures, of 8, 3, 6 and 22 for keys, 4 and 17; 0 where none is.
-fn form_refusal(s: Setting, d: u32, ys: &[u32], lines: &[u8]) -> u32
-    ensures { result ≡ refusal (dealing_form_checks s d ys.now lines.now) }
+// The first number refused before the figures, of 8, 3, 6 and 22 for keys, 4 and 17.
+fn check_form(s: Setting, d: u32, ys: &[u32], lines: &[u8]) -> Result<(), Refusal>
+    ensures { result ≡ outcome (dealing_form_checks s d ys.now lines.now) tt }
 {
     if !is_member(s.n, d) {
-        return refusal::NO_MEMBER;
+        return Err(Refusal::NoMember);
     }
     if !sizes_fit(s.n, ys, lines) {
-        return refusal::BAD_LENGTH;
+        return Err(Refusal::BadLength);
     }
-    let k = keys_refusal(s.group, ys);
-    if k != 0 {
-        return k;
-    }
-    lines_refusal(s, d, lines)
+    check_keys(s.group, ys)?;
+    check_lines(s, d, lines)
 }
 
 // Whether the judge's own check polynomial passes the commitments vs.
@@ -91,52 +88,49 @@ fn all_equal(c: Exponent, cs: [u32; 31], n: usize) -> bool
     true
 }
 
-// The first number refused of 6 for a v or Y, and 7; 0 where none is. Internal: callers ensure a proper setting.
-fn range_refusal(
+// The first number refused of 6 for a v or Y, and 7. Internal: callers ensure a proper setting.
+fn check_ranges(
     s: Setting,
     vs: [u32; 31],
     encrypted: [u32; 31],
     rs: [u32; 31],
     cs: [u32; 31],
-) -> u32
+) -> Result<(), Refusal>
     requires { ProperSetting s }
-    ensures { result ≡ refusal (range_checks s (entry vs) (entry encrypted) (entry rs) (entry cs)) }
+    ensures { result ≡ outcome (range_checks s (entry vs) (entry encrypted) (entry rs) (entry cs)) tt }
 {
     let n = s.n as usize;
     if !all_elements(s.group, &vs[..n]) || !all_elements(s.group, &encrypted[..n]) {
-        return refusal::NO_ELEMENT;
+        return Err(Refusal::NoElement);
     }
     if !all_exponents(s.group, &rs[..n]) || !all_exponents(s.group, &cs[..n]) {
-        return refusal::NO_EXPONENT;
+        return Err(Refusal::NoExponent);
     }
-    0
+    Ok(())
 }
 
 // Judges figures: 6 for a v or Y, 7, 9 and 10. Internal: callers ensure a proper setting, a dealer at most n, and n keys.
-fn judge_figures(s: Setting, d: u32, ys: &[u32], figures: Columns) -> CheckAnswer
+fn judge_figures(s: Setting, d: u32, ys: &[u32], figures: Columns) -> Result<(), Refusal>
     requires { (ProperSetting s) × (d ≤ s.n) × (length ys.now ≡ s.n) }
-    ensures { check_outcome_of result ≡ outcome (column_checks s d ys.now figures) tt }
+    ensures { result ≡ outcome (column_checks s d ys.now figures) tt }
 {
     let vs = figures.vs;
     let encrypted = figures.encrypted;
     let rs = figures.rs;
     let cs = figures.cs;
-    let k = range_refusal(s, vs, encrypted, rs, cs);
-    if k != 0 {
-        return CheckAnswer::Refused(k);
-    }
+    check_ranges(s, vs, encrypted, rs, cs)?;
     if !own_check_passes(s, d, vs, encrypted) {
-        return CheckAnswer::Refused(refusal::DEGREE_FAILS);
+        return Err(Refusal::DegreeFails);
     }
     let c = recomputed(s, d, ys, figures);
-    passed_if(all_equal(c, cs, s.n as usize), refusal::PROOF_FAILS)
+    passed_if(all_equal(c, cs, s.n as usize), Refusal::ProofFails)
 }
 
 // Judges the lines of the dealer d by their figures, which are read once and handed back: 6 for a v or Y, 7, 9 and 10.
 // Internal: callers ensure a proper setting, a dealer at most n, n keys and n lines.
 pub fn judge_lines(s: Setting, d: u32, ys: &[u32], lines: &[u8]) -> LinesAnswer
     requires { (ProperSetting s) × (d ≤ s.n) × (length ys.now ≡ s.n) × (length lines.now ≡ 32 * s.n) }
-    ensures answer_value { check_outcome_of result.answer ≡ outcome (line_figure_checks s d ys.now lines.now) tt }
+    ensures answer_value { result.answer ≡ outcome (line_figure_checks s d ys.now lines.now) tt }
     ensures figures_value { result.figures ≡ columns_of s.n lines.now }
 {
     let figures = read_lines(lines, s.n as usize);
@@ -145,14 +139,11 @@ pub fn judge_lines(s: Setting, d: u32, ys: &[u32], lines: &[u8]) -> LinesAnswer
 }
 
 // Judges a dealing in a setting: 8, 3, 6, 22, 4, 17, 6, 7, 9 and 10. Internal: callers ensure that the setting is proper.
-pub fn judge_dealing_in(s: Setting, d: u32, ys: &[u32], lines: &[u8]) -> CheckAnswer
+pub fn judge_dealing_in(s: Setting, d: u32, ys: &[u32], lines: &[u8]) -> Result<(), Refusal>
     requires { ProperSetting s }
-    ensures { check_outcome_of result ≡ judge_dealing_in s d ys.now lines.now }
+    ensures { result ≡ judge_dealing_in s d ys.now lines.now }
 {
-    let k = form_refusal(s, d, ys, lines);
-    if k != 0 {
-        return CheckAnswer::Refused(k);
-    }
+    check_form(s, d, ys, lines)?;
     judge_lines(s, d, ys, lines).answer
 }
 
@@ -160,11 +151,9 @@ pub fn judge_dealing_in(s: Setting, d: u32, ys: &[u32], lines: &[u8]) -> CheckAn
 // bytes; 6 a key that is no element or is 1; 22 two equal keys; 4 a record that is no line of d for the member of its place; 17 a line
 // of another round; 6 a v or Y that is no element; 7 an r or c not below q; 9 the judge's own check polynomial does not pass; 10 a
 // challenge is not the recomputed one.
-pub fn judge_dealing(table: &[u8], rd: Round, d: u32, ys: &[u32], lines: &[u8]) -> CheckAnswer
-    ensures { check_outcome_of result ≡ judge_dealing_outcome table.now rd d ys.now lines.now }
+pub fn judge_dealing(table: &[u8], rd: Round, d: u32, ys: &[u32], lines: &[u8]) -> Result<(), Refusal>
+    ensures { result ≡ judge_dealing_outcome table.now rd d ys.now lines.now }
 {
-    match setting_of(table, rd) {
-        SettingAnswer::Refused(k) => CheckAnswer::Refused(k),
-        SettingAnswer::Value(s) => judge_dealing_in(s, d, ys, lines),
-    }
+    let s = setting_of(table, rd)?;
+    judge_dealing_in(s, d, ys, lines)
 }

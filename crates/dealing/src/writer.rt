@@ -1,7 +1,7 @@
 // The writing of a dealing: the checks of its figures, the powers, the challenge, and a line for each member.
 ghost use Rattle.std.specs.Prelude.{◌≡◌, ◌&&◌, ◌*◌, ◌<◌, ◌≤◌, eqb, length};
 ghost use Rattle.words.specs.Lists.{Below, map, filled, entry};
-ghost use Rattle.words.specs.Checks.{refusal, check_outcome_of};
+ghost use Rattle.words.specs.Checks.{outcome};
 ghost use Rattle.field.specs.Polynomial.{value_at};
 ghost use Rattle.group.specs.Power.{pow};
 ghost use Rattle.sharing.specs.Setting.{ProperSetting, members};
@@ -12,9 +12,9 @@ use challenge::dealing_challenge;
 use equality::response;
 use group::{Element, Exponent, Group, all_exponents};
 use lines::put_lines;
-use records::keys_refusal;
-use sharing::{Round, Setting, SettingAnswer, is_member, setting_of};
-use words::{CheckAnswer, refusal};
+use records::check_keys;
+use sharing::{Round, Setting, is_member, setting_of};
+use words::Refusal;
 
 // The value of the polynomial f at each member, and 0 behind them.
 // Internal: callers ensure that q is not 0 and that n is at most 31.
@@ -97,24 +97,21 @@ fn sizes_fit(n: u32, t: u32, ys: &[u32], f: &[u32], ws: &[u32], room: usize) -> 
     room == 32 * k
 }
 
-// The first number refused of 8, 3, 6, 22 and 7, 0 where none is.
-fn write_refusal(s: Setting, d: u32, ys: &[u32], f: &[u32], ws: &[u32], room: usize) -> u32
-    ensures { result ≡ refusal (write_dealing_checks s d ys.now f.now ws.now room) }
+// The first number refused of 8, 3, 6, 22 and 7,.
+fn check_writing(s: Setting, d: u32, ys: &[u32], f: &[u32], ws: &[u32], room: usize) -> Result<(), Refusal>
+    ensures { result ≡ outcome (write_dealing_checks s d ys.now f.now ws.now room) tt }
 {
     if !is_member(s.n, d) {
-        return refusal::NO_MEMBER;
+        return Err(Refusal::NoMember);
     }
     if !sizes_fit(s.n, s.t, ys, f, ws, room) {
-        return refusal::BAD_LENGTH;
+        return Err(Refusal::BadLength);
     }
-    let k = keys_refusal(s.group, ys);
-    if k != 0 {
-        return k;
-    }
+    check_keys(s.group, ys)?;
     if !all_exponents(s.group, f) || !all_exponents(s.group, ws) {
-        return refusal::NO_EXPONENT;
+        return Err(Refusal::NoExponent);
     }
-    0
+    Ok(())
 }
 
 // Writes a dealing in a setting: 8, 3, 6, 22 and 7. Internal: callers ensure that the setting is proper.
@@ -125,17 +122,14 @@ pub fn write_dealing_in(
     f: &[u32],
     ws: &[u32],
     out: &mut [u8],
-) -> CheckAnswer
+) -> Result<(), Refusal>
     requires { ProperSetting s }
-    ensures result_value { check_outcome_of result ≡ write_dealing_in s d ys.now f.now ws.now (length out.old) }
+    ensures result_value { result ≡ write_dealing_in s d ys.now f.now ws.now (length out.old) }
     ensures out_after { out.new ≡ lent_dealing_in s d ys.now f.now ws.now out.old }
 {
-    let k = write_refusal(s, d, ys, f, ws, out.len());
-    if k != 0 {
-        return CheckAnswer::Refused(k);
-    }
+    check_writing(s, d, ys, f, ws, out.len())?;
     put_dealing(s, d, ys, f, ws, out);
-    CheckAnswer::Passed
+    Ok(())
 }
 
 // Writes a dealing of the dealer d into the lent bytes, from the keys ys, the polynomial f and the nonces ws. Refused, with no byte
@@ -149,12 +143,10 @@ pub fn write_dealing(
     f: &[u32],
     ws: &[u32],
     out: &mut [u8],
-) -> CheckAnswer
-    ensures result_value { check_outcome_of result ≡ write_dealing_outcome table.now rd d ys.now f.now ws.now (length out.old) }
+) -> Result<(), Refusal>
+    ensures result_value { result ≡ write_dealing_outcome table.now rd d ys.now f.now ws.now (length out.old) }
     ensures out_after { out.new ≡ lent_dealing table.now rd d ys.now f.now ws.now out.old }
 {
-    match setting_of(table, rd) {
-        SettingAnswer::Refused(k) => CheckAnswer::Refused(k),
-        SettingAnswer::Value(s) => write_dealing_in(s, d, ys, f, ws, out),
-    }
+    let s = setting_of(table, rd)?;
+    write_dealing_in(s, d, ys, f, ws, out)
 }

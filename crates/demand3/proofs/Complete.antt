@@ -8,7 +8,7 @@ use native.Mathlib.Omega.{arith}
 use borrow.Author.Tests.{eq-eqb, eqb-true}
 use lib.ListN.{length, take, drop, length-take, length-drop}
 use lib.Dec.{eqb}
-use Rattle.words.specs.Checks.{value, is_value, Met}
+use Rattle.words.specs.Checks.{Met}
 use Rattle.words.specs.Bytes.{record_in, records_in, record_at, agrees}
 use Rattle.words.specs.declared.Record.{Record}
 use Rattle.words.specs.Lists.{entry}
@@ -52,6 +52,7 @@ use Rattle.demand3.specs.Complete.{WrittenLines, OpeningOn, WrittenShare, Opened
 use Rattle.demand3.proofs.VerdictCases.{verdict-rules}
 use Rattle.demand3.proofs.Honest.{share-written, product-power}
 use Rattle.demand3.proofs.Counted.{counted}
+use Rattle.std.specs.Prelude.{Ok, is_ok}
 
 module _ (S : Setting) (P : ProperSetting S) (word : S.round < 2 ^ 32) (b : List ℕ) (met : Met (board_checks S b)) where
   abbrev G : Group
@@ -62,7 +63,7 @@ module _ (S : Setting) (P : ProperSetting S) (word : S.round < 2 ^ 32) (b : List
 
   -- ---- a dealer's lines
   module _ (d : ℕ) (f : List ℕ) (W : WrittenLines S b d f) where
-    lines-judged : judge_dealing_in S d keys (lines_of b d) ≡ value tt
+    lines-judged : judge_dealing_in S d keys (lines_of b d) ≡ Ok tt
     lines-judged = ap (judge_dealing_in S d keys) W.written ∙ dealing-complete S P word d keys f W.nonces W.writes
 
     pub lines-accepted : is_accepted judges S b d ≡ true
@@ -70,7 +71,7 @@ module _ (S : Setting) (P : ProperSetting S) (word : S.round < 2 ^ 32) (b : List
     lines-accepted =
         let size = ((dealing-exactly S d keys (lines_of b d)).0 lines-judged).posted.size in
         let n : line_count b d ≡ S.n = omega (arith, size, (lines-exact S b P (reached S b met).form d).size) in
-        true-and (eqb (line_count b d) S.n) _ (eq-eqb (line_count b d) S.n n) (ap is_value lines-judged)
+        true-and (eqb (line_count b d) S.n) _ (eq-eqb (line_count b d) S.n n) (ap is_ok lines-judged)
 
     lines-true : TrueDealing S b d f
     unfolding written_Y
@@ -117,7 +118,7 @@ module _ (S : Setting) (P : ProperSetting S) (word : S.round < 2 ^ 32) (b : List
     unfolding write_share_in
     writable = write-settled S F m Y x W.nonce 32 ((value-exactly Unit (write_share_checks S F m Y x W.nonce 32) tt).0 W.writes)
 
-    judged : judge_share_in S F m (key_in b m) Y part ≡ value (record { 0 = share_of G Y x })
+    judged : judge_share_in S F m (key_in b m) Y part ≡ Ok (record { 0 = share_of G Y x })
     judged = (λ j. judge_share_in S F m (W.key j) Y (W.written j)) ∙ share-complete S P word F kind m Y x W.nonce W.writes
 
     Z-is : Z_of (record_at b i) ≡ share_of G Y x
@@ -128,7 +129,7 @@ module _ (S : Setting) (P : ProperSetting S) (word : S.round < 2 ^ 32) (b : List
 
     accepted : AcceptedShare S F m (key_in b m) Y part (record_at b i)
     unfolding record_at
-    accepted = (share-exactly S F m (key_in b m) Y part).0 (judged ∙ (λ j. value (record { 0 = sym Z-is j })))
+    accepted = (share-exactly S F m (key_in b m) Y part).0 (judged ∙ (λ j. Ok (record { 0 = sym Z-is j })))
 
     share-inside : i < records_in b
     share-inside = omega (arith, accepted.admitted.size, length-take 32 (drop (32 * i) b), length-drop (32 * i) b)
@@ -144,12 +145,12 @@ module _ (S : Setting) (P : ProperSetting S) (word : S.round < 2 ^ 32) (b : List
     unfolding is_share_in share_answer
     share-accepted Ys same =
         let dealer = accepted.admitted.dealer-word in
-        let answer : share_answer judges S b F Ys i ≡ value (record { 0 = share_of G Y x }) =
+        let answer : share_answer judges S b F Ys i ≡ Ok (record { 0 = share_of G Y x }) =
         (λ j. judge_share_in S F (share-of j) (key_in b (share-of j)) (entry Ys (share-of j)) part)
         ∙ ap (λ (v : ℕ). judge_share_in S F m (key_in b m) v part) same
         ∙ judged in
         true-and (eqb (record_at b i).w0 F.kind) _ (eq-eqb (record_at b i).w0 F.kind share-kind)
-        (true-and (eqb (dealer_of (record_at b i)) F.dealer) _ (eq-eqb (dealer_of (record_at b i)) F.dealer dealer) (ap is_value answer))
+        (true-and (eqb (dealer_of (record_at b i)) F.dealer) _ (eq-eqb (dealer_of (record_at b i)) F.dealer dealer) (ap is_ok answer))
 
     share-is-true : (e : ℕ) → Y ≡ pow G.p (key_in b m) e → Z_of (record_at b i) ≡ power_of_h G e
     share-is-true e h =
@@ -197,7 +198,7 @@ module _ (S : Setting) (P : ProperSetting S) (word : S.round < 2 ^ 32) (b : List
     opened-enough = shares-enough (opened_form d) opened-kind (encrypted_of S b d) (Y_in (lines_of b d)) encrypted-at
 
     can-open : is_accepted judges S b d ≡ true → (m x w : ℕ) → 1 ≤ m → m ≤ S.n → 1 ≤ x → x < G.q → w < G.q
-        → write_share_in S (opened_form d) m (Y_in (lines_of b d) m) x w 32 ≡ value tt
+        → write_share_in S (opened_form d) m (Y_in (lines_of b d) m) x w 32 ≡ Ok tt
     unfolding is_dealer
     can-open a m x w h l s u =
         let posted = ((dealing-exactly S d keys (lines_of b d)).0 ((verdict-rules judges S P b met d).accepts.0 a).1).posted in
@@ -212,7 +213,7 @@ module _ (S : Setting) (P : ProperSetting S) (word : S.round < 2 ^ 32) (b : List
   added-kind = omega arith
 
   can-add : (m x w : ℕ) → 1 ≤ m → m ≤ S.n → 1 ≤ x → x < G.q → w < G.q
-      → write_share_in S added_form m (entry products m) x w 32 ≡ value tt
+      → write_share_in S added_form m (entry products m) x w 32 ≡ Ok tt
   can-add m x w h l s u =
       let A = added-shares S b P met refl in
       share-written S P word added_form A.dealer added-kind m h l x s u (entry products m) w

@@ -23,37 +23,38 @@ use Rattle.verdicts.specs.Draw.{draw_in}
 use Rattle.demand3.specs.Rounds.{draw_by, judges_without, board_without, DistinctBoard, DistinctOverRound}
 use Rattle.demand3.proofs.SameJudges.{all_same, same_end}
 use Rattle.demand3.proofs.Rounds.{answered-by-setting}
+use Rattle.words.specs.declared.refusal.Refusal.TheVariants.{SameKey}
 
 -- ---- a board
-records-met : (S : Setting) (b : List ℕ) (i m : ℕ) → MetBy 22 (record_checks S b i m)
+records-met : (S : Setting) (b : List ℕ) (i m : ℕ) → MetBy SameKey (record_checks S b i m)
 records-met S b i zero = tt
 records-met S b i (suc m) =
     All-append (λ (c : Check). c.number ≡ 22 → c.met ≡ true) (one_record_checks S b i) (record_checks S b (suc i) m)
     (others-met 22 (one_record_checks S b i) refl) (records-met S b (suc i) m)
 
 module _ (S : Setting) (b : List ℕ) (n : Distinct (keys_in S.n b)) where
-  board-met : MetBy 22 (board_checks S b)
+  board-met : MetBy SameKey (board_checks S b)
   unfolding board_checks form_checks board_key_checks key_checks
   board-met =
       All-append (λ (c : Check). c.number ≡ 22 → c.met ≡ true) (form_checks S b) (board_key_checks S b)
       (λ e. absurd (omega arith), records-met S b 0 (records_in b))
       (λ e. absurd (omega arith), (λ e. absurd (omega arith), (λ e. true-distinct (keys_in S.n b) n, tt)))
 
-  without-before : outcome (board_checks S b) tt ≡ outcome (without 22 (board_checks S b)) (tt {0})
+  without-before : outcome (board_checks S b) tt ≡ outcome (without SameKey (board_checks S b)) (tt {0})
   without-before = without-outcome Unit 22 (board_checks S b) tt board-met
 
-  dealings-same : (d : ℕ) → dealing_answer judges S b d ≡ dealing_answer (judges_without 22) S b d
+  dealings-same : (d : ℕ) → dealing_answer judges S b d ≡ dealing_answer (judges_without SameKey) S b d
   dealings-same d = judged-distinct S d (keys_in S.n b) (lines_of b d) n
 
-  without-verdict : (d : ℕ) → verdict_on judges S b d ≡ verdict_on (judges_without 22) S b d
+  without-verdict : (d : ℕ) → verdict_on judges S b d ≡ verdict_on (judges_without SameKey) S b d
   unfolding share_answer
-  without-verdict = all_same judges (judges_without 22) S b dealings-same (λ F Ys i. refl)
+  without-verdict = all_same judges (judges_without SameKey) S b dealings-same (λ F Ys i. refl)
 
   without-draw : draw_in judges S b ≡ draw_by (board_without 22) S b
   unfolding draw_in share_answer
   without-draw =
-      same-behind (board_checks S b) (without 22 (board_checks S b)) without-before _ _ _ _
-      (λ m. same_end judges (judges_without 22) S b dealings-same (λ F Ys i. refl))
+      same-behind (board_checks S b) (without SameKey (board_checks S b)) without-before _ _ _ _
+      (λ m. same_end judges (judges_without SameKey) S b dealings-same (λ F Ys i. refl))
 
 pub distinct-board : DistinctBoard
 distinct-board S b n = record { before = without-before S b n; verdict = λ m. without-verdict S b n; draw = without-draw S b n }

@@ -10,7 +10,7 @@ use lib.ListN.{take, drop, replicate}
 use lib.Dec.{leb, eqb}
 use Rattle.words.specs.Choice.{pick}
 use Rattle.words.specs.Lists.{All, map, up_from, entry}
-use Rattle.words.specs.Checks.{Check, value, outcome, Met}
+use Rattle.words.specs.Checks.{Check, outcome, Met}
 use Rattle.words.specs.Bytes.{record_in, record_at}
 use Rattle.words.proofs.Lists.{All-each, All-to, map-all}
 use Rattle.words.proofs.Tests.{false-true, and-true, pick_true}
@@ -53,6 +53,7 @@ use Rattle.demand3.proofs.Serving.{serving, serving-shares}
 use Rattle.demand3.proofs.Sources.{Source, opened, recovers, stuck, source_of}
 use Rattle.demand3.proofs.VerdictCases.{verdict-rules}
 use Rattle.demand3.proofs.Endings.{end-rules}
+use Rattle.std.specs.Prelude.{Ok}
 
 -- ---- products of powers of elements
 module _ (G : Group) (P : Proper G) where
@@ -104,7 +105,7 @@ module _ (J : Judges) (E : TakesElements J) (S : Setting) (P : ProperSetting S) 
   named-element d s e =
       ap (λ (x : Secret). is_element G (secret_value x)) (sym (((verdict-rules J S P b m d).accepted s).0 e).1) ∙ secret-element d
 
-  draw-element : (v : Element) → draw_in J S b ≡ value v → is_element G v.0 ≡ true
+  draw-element : (v : Element) → draw_in J S b ≡ Ok v → is_element G v.0 ≡ true
   draw-element v e =
       ⊎_elim
       (λ s. ap (is_element G) s.1
@@ -129,7 +130,7 @@ pub judges-take-elements : JudgesTakeElements
 unfolding judge_share_in
 judges-take-elements S F i y Y b Z e =
     let own : Element = record { 0 = Z_of (record_in b) } in
-    ((share-exactly S F i y Y b).0 (e ∙ ap value (sym (value-met (judge_share_checks S F i y Y b) own Z e).1))).holds.Z-element
+    ((share-exactly S F i y Y b).0 (e ∙ ap Ok (sym (value-met (judge_share_checks S F i y Y b) own Z e).1))).holds.Z-element
 
 -- ---- over a table and a round
 no-secret : (G : Group) → SecretElement G None
@@ -159,7 +160,7 @@ module _ (T : List ℕ) (R : Round) (b : List ℕ) where
   elements m = board-elements judges judges-take-elements S (round-proper T R m) b
 
   -- a draw value says that no check before it refuses
-  pub drawn-round : (v : Element) → draw_outcome judges T R b ≡ value v → Met (round_checks T R) × (is_element S.group v.0 ≡ true)
+  pub drawn-round : (v : Element) → draw_outcome judges T R b ≡ Ok v → Met (round_checks T R) × (is_element S.group v.0 ≡ true)
   unfolding draw_outcome draw_in
   drawn-round v e =
       let s = (judged-exactly T R (λ X. board_draw_checks judges X b) (λ X. draw_value judges X b) v).0 e in
@@ -183,7 +184,7 @@ answers-elements T R b =
     }
 
 -- ---- the draw value handed on
-module _ (T : List ℕ) (R : Round) (b : List ℕ) (v : Element) (e : draw_outcome judges T R b ≡ value v) where
+module _ (T : List ℕ) (R : Round) (b : List ℕ) (v : Element) (e : draw_outcome judges T R b ≡ Ok v) where
   group-there : Met (group_checks T R.group)
   unfolding group_checks round_checks round_figures
   group-there =
@@ -205,7 +206,7 @@ module _ (T : List ℕ) (R : Round) (b : List ℕ) (v : Element) (e : draw_outco
       ap (λ (l : List Check). outcome l tt) (sym (append_assoc (chain_checks T c) (link_room c room) drawn))
       ∙ settled-behind (chain_checks T c ++ link_room c room) drawn tt (there, ((drawn-round T R b v e).1, tt))
 
-  extends-accepted : (c : List ℕ) (room : ℕ) → chain_outcome T c ≡ value tt
+  extends-accepted : (c : List ℕ) (room : ℕ) → chain_outcome T c ≡ Ok tt
       → extend_outcome T c R.group v.0 room ≡ outcome (link_room c room) tt
   unfolding chain_outcome
   extends-accepted c room a =

@@ -12,7 +12,7 @@ use lib.ListN.{length, take}
 use lib.Dec.{leb}
 use Rattle.words.specs.Choice.{pick}
 use Rattle.words.specs.Lists.{map, up_from}
-use Rattle.words.specs.Checks.{value, refused, outcome, Met}
+use Rattle.words.specs.Checks.{outcome, Met}
 use Rattle.words.proofs.Tests.{false-true, pick_true, pick-false}
 use Rattle.words.proofs.Stages.{rest-outcome, front-outcome}
 use Rattle.group.specs.declared.Element.{Element}
@@ -34,6 +34,8 @@ use Rattle.verdicts.specs.declared.Verdict.TheVariants.{None, Refused, Accepted}
 use Rattle.demand3.specs.Claims.{SomeStuck, RefusedBefore, DrawnBySecrets, DrawnByAdded, EndRules}
 use Rattle.demand3.proofs.Serving.{shares-ascend}
 use Rattle.demand3.proofs.VerdictCases.{Case, no_lines, some-lines, refused-lines, accepted-lines, case-of}
+use Rattle.std.specs.Prelude.{Ok, Err}
+use Rattle.words.specs.declared.refusal.Refusal.TheVariants.{StillStuck, TooFew}
 
 -- ---- refused before the verdicts
 pub refused-before : RefusedBefore
@@ -116,10 +118,10 @@ abbrev by_added : Judges → Setting → List ℕ → Element
 by_added J S b = record { 0 = recovered_from S.group b (take S.t (added_by J S b)) }
 
 data End (J : Judges) (S : Setting) (b : List ℕ) : Type 0 where
-  fourteen : length (accepted_dealers J S b) < S.t → draw_in J S b ≡ refused 14 → End J S b
-  thirteen : S.t ≤ length (accepted_dealers J S b) → SomeStuck J S b → length (added_by J S b) < S.t → draw_in J S b ≡ refused 13 → End J S b
-  drawn : S.t ≤ length (accepted_dealers J S b) → (SomeStuck J S b → ⊥) → draw_in J S b ≡ value (by_secrets J S b) → End J S b
-  added : S.t ≤ length (accepted_dealers J S b) → SomeStuck J S b → S.t ≤ length (added_by J S b) → draw_in J S b ≡ value (by_added J S b) → End J S b
+  fourteen : length (accepted_dealers J S b) < S.t → draw_in J S b ≡ Err TooFew → End J S b
+  thirteen : S.t ≤ length (accepted_dealers J S b) → SomeStuck J S b → length (added_by J S b) < S.t → draw_in J S b ≡ Err StillStuck → End J S b
+  drawn : S.t ≤ length (accepted_dealers J S b) → (SomeStuck J S b → ⊥) → draw_in J S b ≡ Ok (by_secrets J S b) → End J S b
+  added : S.t ≤ length (accepted_dealers J S b) → SomeStuck J S b → S.t ≤ length (added_by J S b) → draw_in J S b ≡ Ok (by_added J S b) → End J S b
 
 module _ (J : Judges) (S : Setting) (P : ProperSetting S) (b : List ℕ) (m : Met (board_checks S b)) where
   F : Reached S b
@@ -170,13 +172,13 @@ module _ (J : Judges) (S : Setting) (P : ProperSetting S) (b : List ℕ) (m : Me
 
 -- ---- each exactly where its conditions hold
 module _ {J : Judges} {S : Setting} {b : List ℕ} where
-  fourteen-exactly : End J S b → (draw_in J S b ≡ refused 14) ↔ (length (accepted_dealers J S b) < S.t)
+  fourteen-exactly : End J S b → (draw_in J S b ≡ Err TooFew) ↔ (length (accepted_dealers J S b) < S.t)
   fourteen-exactly (fourteen l e) = (λ h. l, λ h. e)
   fourteen-exactly (thirteen l s u e) = (λ h. let z : ◌≡◌ {A = ℕ} 13 14 = cc in absurd (omega arith), λ h. absurd (omega arith))
   fourteen-exactly (drawn l n e) = (λ h. absurd (false-true (cc)), λ h. absurd (omega arith))
   fourteen-exactly (added l s u e) = (λ h. absurd (false-true (cc)), λ h. absurd (omega arith))
 
-  thirteen-exactly : End J S b → (draw_in J S b ≡ refused 13)
+  thirteen-exactly : End J S b → (draw_in J S b ≡ Err StillStuck)
       ↔ ((S.t ≤ length (accepted_dealers J S b)) × SomeStuck J S b × (length (added_by J S b) < S.t))
   thirteen-exactly (fourteen l e) = (λ h. let z : ◌≡◌ {A = ℕ} 13 14 = cc in absurd (omega arith), λ h. absurd (omega (arith, h.0)))
   thirteen-exactly (thirteen l s u e) = (λ h. (l, s, u), λ h. e)
@@ -184,16 +186,16 @@ module _ {J : Judges} {S : Setting} {b : List ℕ} where
   thirteen-exactly (added l s u e) = (λ h. absurd (false-true (cc)), λ h. absurd (omega (arith, h.2)))
 
   drawn-exactly : End J S b → (v : Element)
-      → (draw_in J S b ≡ value v) ↔ ((S.t ≤ length (accepted_dealers J S b)) × (DrawnBySecrets J S b v ⊎ DrawnByAdded J S b v))
+      → (draw_in J S b ≡ Ok v) ↔ ((S.t ≤ length (accepted_dealers J S b)) × (DrawnBySecrets J S b v ⊎ DrawnByAdded J S b v))
   drawn-exactly (fourteen l e) v = (λ h. absurd (false-true (cc)), λ h. absurd (omega (arith, h.0)))
   drawn-exactly (thirteen l s u e) v = (λ h. absurd (false-true (cc)), λ h. absurd (⊎_elim (λ d. d.0 s) (λ a. omega (arith, a.1)) h.1))
   drawn-exactly (drawn l n e) v = (
     λ h. (l, inl (n, cc)),
-    λ h. e ∙ ⊎_elim (λ d j. value (record { 0 = sym d.1 j })) (λ a. absurd (n a.0)) h.1,
+    λ h. e ∙ ⊎_elim (λ d j. Ok (record { 0 = sym d.1 j })) (λ a. absurd (n a.0)) h.1,
   )
   drawn-exactly (added l s u e) v = (
     λ h. (l, inr (s, u, cc)),
-    λ h. e ∙ ⊎_elim (λ d. absurd (d.0 s)) (λ a j. value (record { 0 = sym a.2 j })) h.1,
+    λ h. e ∙ ⊎_elim (λ d. absurd (d.0 s)) (λ a j. Ok (record { 0 = sym a.2 j })) h.1,
   )
 
 pub end-rules : EndRules

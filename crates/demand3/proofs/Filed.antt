@@ -52,6 +52,7 @@ use Rattle.demand3.specs.Filed.{filed_shaped, filed_end_checks, filed_record_che
 use Rattle.demand3.proofs.Endings.{refused-before}
 use Rattle.demand3.proofs.SameJudges.{same-verdict}
 use Rattle.demand3.proofs.Rounds.{first-refusal, answered-by-setting}
+use Rattle.words.specs.declared.refusal.Refusal.TheVariants.{SameKey}
 
 -- ---- round 0
 -- the test of word 7, which holds
@@ -182,7 +183,7 @@ module _ (S : Setting) (z : S.round ≡ 0) (b : List ℕ) (w : OfThen b) where
       (λ k. true-distinct (keys_in S.n b) (n (both-met form keys (met-too (form_checks S b) form form-same m) k))))
 
   -- and is the first to refuse where the scope paper let two equal ones through
-  filed-twice : Met (filed_board_checks S b) → KeyTwice S.group (keys_in S.n b) → FirstUnmet 22 (board_checks S b)
+  filed-twice : Met (filed_board_checks S b) → KeyTwice S.group (keys_in S.n b) → FirstUnmet SameKey (board_checks S b)
   filed-twice m =
       let s = met-both form keys m in
       board-key-twice S b (met-too form (form_checks S b) (sym form-same) s.0) s.1.0

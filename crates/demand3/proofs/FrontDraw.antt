@@ -10,7 +10,7 @@ use borrow.Author.Tests.{lt-leb}
 use lib.ListN.{length, take}
 use lib.Dec.{leb}
 use Rattle.words.specs.Choice.{pick}
-use Rattle.words.specs.Checks.{◌unless◌, Outcome, value, refused, outcome, Met}
+use Rattle.words.specs.Checks.{◌unless◌, Outcome, outcome, Met}
 use Rattle.words.specs.declared.Record.{Record}
 use Rattle.words.proofs.Lists.{All-each, map_same}
 use Rattle.words.proofs.Stages.{rest-outcome}
@@ -31,6 +31,8 @@ use Rattle.demand3.specs.KindFive.{AddedAtEnd}
 use Rattle.demand3.proofs.Front.{Front, front_of, record_same}
 use Rattle.demand3.proofs.Found.{reached-front}
 use Rattle.demand3.proofs.FrontVerdicts.{accepted-same, verdict-same}
+use Rattle.std.specs.Prelude.{Ok, Err}
+use Rattle.words.specs.declared.refusal.Refusal.TheVariants.{StillStuck}
 
 -- ---- an end by its tests: enough dealings, a stuck one, enough added shares; by what the added shares recover, and by the product
 abbrev ending : Bool → Bool → Bool → Element → Element → Outcome Element
@@ -38,7 +40,7 @@ ending enough stuck shares v w = outcome (14 unless enough ∷ 13 unless pick st
 
 ends : (enough stuck shares : Bool) (v u w : Element)
     → (ending enough stuck shares v w ≡ ending enough stuck false u w)
-    ⊎ ((ending enough stuck false u w ≡ refused 13) × ((x : Element) × (ending enough stuck shares v w ≡ value x)))
+    ⊎ ((ending enough stuck false u w ≡ Err StillStuck) × ((x : Element) × (ending enough stuck shares v w ≡ Ok x)))
 ends false stuck shares v u w = inl refl
 ends true false shares v u w = inl refl
 ends true true true v u w = inr (refl, (v, refl))
@@ -78,7 +80,7 @@ module _ (J : Judges) (S : Setting) (P : ProperSetting S) {b c : List ℕ} (F : 
       draw-is J S c (reached-front F S met) ∙ (λ j. ending_by J S c (verdicts-same j) (too-few j))
 
   -- ---- the end
-  pub end_same : (draw_in J S b ≡ draw_in J S c) ⊎ ((draw_in J S c ≡ refused 13) × ((v : Element) × (draw_in J S b ≡ value v)))
+  pub end_same : (draw_in J S b ≡ draw_in J S c) ⊎ ((draw_in J S c ≡ Err StillStuck) × ((v : Element) × (draw_in J S b ≡ Ok v)))
   end_same =
       let vs = verdicts_on J S b in
       ⊎_elim

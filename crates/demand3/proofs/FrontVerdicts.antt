@@ -12,7 +12,7 @@ use lib.ListN.{length, take, drop}
 use lib.Dec.{leb, ltb, eqb}
 use Rattle.words.specs.Choice.{pick}
 use Rattle.words.specs.Lists.{All, map, up_from, entry}
-use Rattle.words.specs.Checks.{◌unless◌, Outcome, outcome, is_value, Met}
+use Rattle.words.specs.Checks.{◌unless◌, Outcome, outcome, Met}
 use Rattle.words.specs.Bytes.{records_in, record_at}
 use Rattle.words.specs.declared.Record.{Record}
 use Rattle.words.proofs.Lists.{All-to, All-take, map_same, up-within}
@@ -36,6 +36,8 @@ use Rattle.verdicts.specs.declared.Verdict.TheVariants.{None, Refused}
 use Rattle.verdicts.proofs.ShareAnswers.{share-address}
 use Rattle.demand3.proofs.Front.{Front, bytes_same, record_same}
 use Rattle.demand3.proofs.Found.{line-count-same, lines_same, record-found, key-same, keys-same}
+use Rattle.std.specs.Prelude.{is_ok}
+use Rattle.words.specs.declared.refusal.Refusal.TheVariants.{Incomplete}
 
 -- what stands behind a test counts only where it holds
 behind_test : (x : Bool) {y z : Bool} → (x ≡ true → y ≡ z) → x && y ≡ x && z
@@ -49,7 +51,7 @@ module _ (J : Judges) (S : Setting) {b c : List ℕ} (F : Front b c) (met : Met 
 
   pub accepted-same : (d : ℕ) → is_accepted J S c d ≡ is_accepted J S b d
   unfolding is_accepted
-  accepted-same d = λ j. eqb (line-count-same F d j) S.n && is_value (dealing-same d j)
+  accepted-same d = λ j. eqb (line-count-same F d j) S.n && is_ok (dealing-same d j)
 
   encrypted-same : (d : ℕ) → encrypted_of S c d ≡ encrypted_of S b d
   unfolding encrypted_of
@@ -74,8 +76,8 @@ module _ (J : Judges) (S : Setting) {b c : List ℕ} (F : Front b c) (met : Met 
     share-same i h =
         let r : record_at c i ≡ record_at b i = record_same F i h in
         behind_test (eqb (record_at c i).w0 share_kind)
-        (λ e. ap (λ (o : Outcome Element). eqb (dealer_of (record_at c i)) d && is_value o) (answer-same i h (eqb-true (record_at c i).w0 share_kind e)))
-        ∙ ap (λ (x : Record). eqb x.w0 share_kind && (eqb (dealer_of x) d && is_value (share_answer J S b (opened_form d) Ys i))) r
+        (λ e. ap (λ (o : Outcome Element). eqb (dealer_of (record_at c i)) d && is_ok o) (answer-same i h (eqb-true (record_at c i).w0 share_kind e)))
+        ∙ ap (λ (x : Record). eqb x.w0 share_kind && (eqb (dealer_of x) d && is_ok (share_answer J S b (opened_form d) Ys i))) r
 
     shares-same : shares_in J S c (opened_form d) Ys ≡ shares_in J S b (opened_form d) Ys
     unfolding shares_in
@@ -126,7 +128,7 @@ module _ (J : Judges) (S : Setting) {b c : List ℕ} (F : Front b c) (met : Met 
     unfolding secret_by is_opened
     not_opened x e =
         pick-false (is_opened S x d) _ _
-        (ap (λ (t : Bool). t && is_value (opening_in S (commitments_of S x d) (u_of (record_at x (opening_place x d)))))
+        (ap (λ (t : Bool). t && is_ok (opening_in S (commitments_of S x d) (u_of (record_at x (opening_place x d)))))
         (le-ltb (opening_place x d) (records_in x) (omega arith)))
 
     opened-same : opening_place b d < records_in c → opening_place c d ≡ opening_place b d → secret_by J S c d ≡ secret_by J S b d
@@ -136,7 +138,7 @@ module _ (J : Judges) (S : Setting) {b c : List ℕ} (F : Front b c) (met : Met 
         let there : ltb (opening_place c d) (records_in c) ≡ ltb (opening_place b d) (records_in b) =
         lt-ltb (opening_place c d) (records_in c) (omega arith) ∙ sym (lt-ltb (opening_place b d) (records_in b) (omega (arith, F.within))) in
         λ j.
-        pick (there j && is_value (opening_in S (vs_in S.n (lines_same F d j)) (u_of (r j))))
+        pick (there j && is_ok (opening_in S (vs_in S.n (lines_same F d j)) (u_of (r j))))
         (Opened (record { 0 = pow S.group.p S.group.h.0 (u_of (r j)) }))
         (from-shares-same j)
 
@@ -151,4 +153,4 @@ module _ (J : Judges) (S : Setting) {b c : List ℕ} (F : Front b c) (met : Met 
     verdict-same =
         λ j.
         pick (eqb (line-count-same F d j) 0) None
-        (pick (eqb (line-count-same F d j) S.n) (verdict_from (dealing-same d j) (secret-same j)) (Refused 12))
+        (pick (eqb (line-count-same F d j) S.n) (verdict_from (dealing-same d j) (secret-same j)) (Refused Incomplete))

@@ -8,7 +8,6 @@ use native.Mathlib.Omega.{arith}
 use borrow.Author.Tests.{le-leb, lt-ltb}
 use lib.Dec.{leb}
 use Rattle.words.specs.Lists.{All, map}
-use Rattle.words.specs.Checks.{value}
 use Rattle.words.proofs.Lists.{All-to, All-both, map_same}
 use Rattle.words.proofs.Tests.{true-and}
 use Rattle.words.proofs.Checks.{value-exactly}
@@ -35,12 +34,13 @@ use Rattle.share.proofs.Keys.{h-element, share-true}
 use Rattle.share.proofs.Shares.{share-complete}
 use Rattle.demand3.specs.Claims.{power_of_h}
 use Rattle.demand3.specs.Honest.{HoldsKey, line_Y, lines_Y, LineShareAccepted, WrittenRecovered, AddedShareAccepted}
+use Rattle.std.specs.Prelude.{Ok}
 
 -- ---- in any form, a member writes a share of an element with a secret key, and it is accepted with its key
 module _ (S : Setting) (P : ProperSetting S) (word : S.round < 2 ^ 32) (F : ShareForm) (D : is_dealer S.n F ≡ true) (kind : F.kind < 2 ^ 32)
     (i : ℕ) (h : 1 ≤ i) (l : i ≤ S.n) (x : ℕ) (some : 1 ≤ x) (low : x < S.group.q) (Y w : ℕ) (e : is_element S.group Y ≡ true)
     (v : w < S.group.q) where
-  pub share-written : write_share_in S F i Y x w 32 ≡ value tt
+  pub share-written : write_share_in S F i Y x w 32 ≡ Ok tt
   unfolding write_share_in write_share_checks members_checks is_secret_key
   share-written =
       let G = S.group in
@@ -50,11 +50,11 @@ module _ (S : Setting) (P : ProperSetting S) (word : S.round < 2 ^ 32) (F : Shar
       (value-exactly Unit (write_share_checks S F i Y x w 32) tt).1 (eight, (refl, (e, (seven, tt))))
 
   share-judged : {y Z : ℕ} → y ≡ key_of S.group x → share_of S.group Y x ≡ Z
-      → judge_share_in S F i y Y (written_share S F i Y x w) ≡ value (record { 0 = Z })
+      → judge_share_in S F i y Y (written_share S F i Y x w) ≡ Ok (record { 0 = Z })
   share-judged k z =
       ap (λ (y : ℕ). judge_share_in S F i y Y (written_share S F i Y x w)) k
       ∙ share-complete S P word F kind i Y x w share-written
-      ∙ ap (λ (Z : ℕ). value (record { 0 = Z })) z
+      ∙ ap (λ (Z : ℕ). Ok (record { 0 = Z })) z
 
 -- ---- one dealing
 module _ (S : Setting) (P : ProperSetting S) (word : S.round < 2 ^ 32) (d : ℕ) (ys f ws : List ℕ) (W : WritableDealing S d ys f ws) where
@@ -109,7 +109,7 @@ product-power S P y e ds f Y i a =
     ∙ sym (sum-value S P y e ds f (All-to ds (λ d s. s.0) a) i)
 
 module _ (S : Setting) (P : ProperSetting S) (word : S.round < 2 ^ 32) (ds ys : List ℕ) (f ws : ℕ → List ℕ)
-    (W : All (λ d. write_dealing_in S d ys (f d) (ws d) (32 * S.n) ≡ value tt) ds) (i : ℕ) (h : 1 ≤ i) (l : i ≤ S.n) (x : ℕ) (K : HoldsKey S.group ys i x) where
+    (W : All (λ d. write_dealing_in S d ys (f d) (ws d) (32 * S.n) ≡ Ok tt) ds) (i : ℕ) (h : 1 ≤ i) (l : i ≤ S.n) (x : ℕ) (K : HoldsKey S.group ys i x) where
   abbrev sum_at : ℕ
   sum_at = value_at S.group.q (sum_of S (map f ds)) i
 

@@ -4,15 +4,12 @@ use mathlib.Core.Path.{◌≡◌, refl, sym, ap, ◌∙◌, subst}
 use mathlib.Core.List.{List, ◌++◌, append_assoc}
 use Prim.Native.Nat.{ℕ}
 use Rattle.words.specs.Lists.{map}
-use Rattle.words.specs.Checks.{Check, Outcome, value, refused, outcome, is_value, Met, FirstUnmet}
+use Rattle.words.specs.Checks.{Check, Outcome, outcome, Met, FirstUnmet}
 use Rattle.words.proofs.Tests.{false-true}
 use Rattle.words.proofs.Checks.{if-unmet, refused-exactly}
 use Rattle.words.proofs.Stages.{met-both, rest-first, front-outcome}
 use Rattle.words.proofs.RefuseAlike.{same-behind, same-value, same-choice}
-use Rattle.group.specs.Answer.{element_outcome_of}
 use Rattle.group.specs.declared.Element.{Element}
-use Rattle.group.specs.declared.ElementAnswer.{ElementAnswer}
-use Rattle.group.specs.declared.ElementAnswer.TheVariants.{Value, Refused}
 use Rattle.sharing.specs.Setting.{setting_in, round_checks, judged, judged_else, members}
 use Rattle.sharing.specs.declared.Round.{Round}
 use Rattle.sharing.specs.declared.Setting.{Setting}
@@ -28,14 +25,15 @@ use Rattle.rulings.specs.Files.{round_in, file_checks}
 use Rattle.text.specs.Text.{refused_line, dealer_lines, accepted_line, draw_line, round_line, text_of, report, board_text, draw_text}
 use Rattle.text.proofs.Reports.{text-passed}
 use Rattle.demand3.specs.Rounds.{FirstRefusal, OtherRoundRefused, KeyTwiceRefused, BoardJudge, draw_over, places_over, count_over, report_by, text_over, JudgedAs, AnsweredBySetting}
+use Rattle.std.specs.Prelude.{Ok, Err, is_ok}
 
-refused-answer : (a : ElementAnswer) {k : ℕ} → element_outcome_of a ≡ refused k → a ≡ Refused k
-refused-answer (Value v) e = absurd (false-true (sym (ap is_value e)))
-refused-answer (Refused i) {k} e = ap Refused (ap number e)
+refused-answer : (a : ElementAnswer) {k : ℕ} → a ≡ Err k → a ≡ Err k
+refused-answer (Ok v) e = absurd (false-true (sym (ap is_ok e)))
+refused-answer (Err i) {k} e = ap Err (ap number e)
   where
     number : Outcome Element → ℕ
-    number (value v) = 0
-    number (refused j) = j
+    number (Ok v) = 0
+    number (Err j) = j
 
 module _ (T : List ℕ) (R : Round) (b : List ℕ) where
   abbrev S : Setting
@@ -47,7 +45,7 @@ module _ (T : List ℕ) (R : Round) (b : List ℕ) where
 
   -- ---- refused before the verdicts
   module _ (J : Judges) (k : ℕ) (u : FirstUnmet k own) where
-    no-draw : draw_outcome J T R b ≡ refused k
+    no-draw : draw_outcome J T R b ≡ Err k
     unfolding draw_outcome judged
     no-draw =
         sym

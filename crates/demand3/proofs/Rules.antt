@@ -6,7 +6,7 @@ use Prim.Native.Nat.{ℕ, zero, suc}
 use borrow.Author.Tests.{eq-eqb}
 use lib.Dec.{eqb}
 use Rattle.words.specs.Lists.{all}
-use Rattle.words.specs.Checks.{Check, ◌unless◌, value, refused, outcome, Met}
+use Rattle.words.specs.Checks.{Check, ◌unless◌, outcome, Met}
 use Rattle.words.specs.Bytes.{record_in, records_in}
 use Rattle.words.proofs.Tests.{pick_true}
 use Rattle.words.proofs.Checks.{value-met}
@@ -29,6 +29,8 @@ use Rattle.share.specs.Share.{members_checks, share_admission_checks, share_reco
 use Rattle.share.specs.declared.ShareForm.{ShareForm}
 use Rattle.board.specs.Board.{one_record_checks, record_checks, length_checks, form_checks, board_key_checks, board_checks, lines_checks}
 use Rattle.demand3.specs.Rules.{under_rule, UnderOtherRule}
+use Rattle.std.specs.Prelude.{Ok, Err}
+use Rattle.words.specs.declared.refusal.Refusal.TheVariants.{DegreeFails}
 
 -- of checks in three stages that are all met: with other checks in the third, these alone decide
 last-decides : {A : Type 0} (front ranges own other : List Check) → Met (front ++ (ranges ++ own)) → (a : A)
@@ -58,7 +60,7 @@ module _ (S : Setting) (whole : Bool) where
     unfolding board_checks board_key_checks
     board-same = ap (λ (cs : List Check). cs ++ board_key_checks S b) form-same
 
-  module _ (d : ℕ) (ys b : List ℕ) (e : judge_dealing_in S d ys b ≡ value tt) where
+  module _ (d : ℕ) (ys b : List ℕ) (e : judge_dealing_in S d ys b ≡ Ok tt) where
     by-equations : judge_dealing_in T d ys b ≡ outcome (equation_checks T d ys (v_in b) (Y_in b) (r_in b) (c_in b)) tt
     unfolding judge_dealing_in dealing_form_checks address_checks judge_size_checks line_checks range_checks
     by-equations =
@@ -76,9 +78,9 @@ module _ (S : Setting) (whole : Bool) where
         let P' = proper-in-round S.round whole P in
         let K' : Carries T f vs = carries-in-round S.round S.whole_digest K in
         let nine = passed-product T vs ds ((carried-passes T P' f vs K').1 ds (check-polynomial T P' d (v_in b) (Y_in b))) in
-        by-equations ∙ pick_true (eqb (degree_product T vs ds) 1) _ (refused 9) (eq-eqb _ 1 nine)
+        by-equations ∙ pick_true (eqb (degree_product T vs ds) 1) _ (Err DegreeFails) (eq-eqb _ 1 nine)
 
-  module _ (F : ShareForm) (i y Y : ℕ) (b : List ℕ) (Z : Element) (e : judge_share_in S F i y Y b ≡ value Z) where
+  module _ (F : ShareForm) (i y Y : ℕ) (b : List ℕ) (Z : Element) (e : judge_share_in S F i y Y b ≡ Ok Z) where
     by-challenge : judge_share_in T F i y Y b ≡ outcome (10 unless eqb (share_c (record_in b)) (share_recomputed T F i y Y (record_in b)) ∷ []) Z
     unfolding judge_share_in share_admission_checks members_checks share_figure_checks
     by-challenge =

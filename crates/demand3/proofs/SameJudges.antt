@@ -9,7 +9,7 @@ use lib.ListN.{length, take}
 use lib.Dec.{eqb}
 use Rattle.words.specs.Choice.{pick}
 use Rattle.words.specs.Lists.{map, up_from}
-use Rattle.words.specs.Checks.{Outcome, outcome, is_value}
+use Rattle.words.specs.Checks.{Outcome, outcome}
 use Rattle.words.specs.Bytes.{records_in, record_at}
 use Rattle.words.proofs.Lists.{All-to, up-within}
 use Rattle.words.proofs.Tests.{pick_same}
@@ -30,6 +30,7 @@ use Rattle.verdicts.specs.Added.{multiplied_at, multiplied, added_by}
 use Rattle.verdicts.specs.Draw.{count_accepted, any_stuck, secrets_product, end_checks, draw_checks, draw_value}
 use Rattle.verdicts.specs.declared.Secret.TheVariants.{Opened}
 use Rattle.verdicts.specs.declared.Verdict.TheVariants.{None}
+use Rattle.std.specs.Prelude.{is_ok}
 
 module _ (J K : Judges) (S : Setting) (b : List ℕ) where
   -- the same shares of a form
@@ -39,7 +40,7 @@ module _ (J K : Judges) (S : Setting) (b : List ℕ) where
   same-shares F Ys share =
       filter_same (is_share_in J S b F Ys) (is_share_in K S b F Ys) (up_from 0 (records_in b))
       (All-to (up_from 0 (records_in b))
-      (λ i s. ap (λ (o : Outcome Element). eqb (record_at b i).w0 F.kind && (eqb (dealer_of (record_at b i)) F.dealer && is_value o)) (share i (omega (arith, s.1))))
+      (λ i s. ap (λ (o : Outcome Element). eqb (record_at b i).w0 F.kind && (eqb (dealer_of (record_at b i)) F.dealer && is_ok o)) (share i (omega (arith, s.1))))
       (up-within 0 (records_in b) (0 + records_in b) (omega arith)))
 
   -- and the same verdict on a dealer
@@ -69,7 +70,7 @@ module _ (J K : Judges) (S : Setting) (b : List ℕ) where
     unfolding is_accepted multiplied
     same-added =
         let accepted : (d : ℕ) → is_accepted J S b d ≡ is_accepted K S b d =
-        λ d. ap (λ (o : Outcome Unit). eqb (line_count b d) S.n && is_value o) (dealing d) in
+        λ d. ap (λ (o : Outcome Unit). eqb (line_count b d) S.n && is_ok o) (dealing d) in
         same-shares added_form (multiplied J S b Y_in) (λ i h. share added_form (multiplied J S b Y_in) i)
         ∙ (λ j.
         shares_in K S b added_form (map (multiplied_at S.group.p b Y_in (filter (λ d. accepted d j) (members S.n))) (members S.n)))

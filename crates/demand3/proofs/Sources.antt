@@ -9,7 +9,6 @@ use native.Mathlib.Omega.{arith}
 use borrow.Author.Tests.{lt-ltb, ltb-true, leb-true, leb-false}
 use lib.ListN.{length, take}
 use lib.Dec.{leb, ltb}
-use Rattle.words.specs.Checks.{is_value}
 use Rattle.words.specs.Bytes.{records_in, record_at}
 use Rattle.words.proofs.Tests.{false-true, and-true, true-and, pick_true, pick-false}
 use Rattle.words.proofs.Checks.{is-value}
@@ -24,6 +23,7 @@ use Rattle.verdicts.specs.Shares.{Judges, recovered_from, from_lowest}
 use Rattle.verdicts.specs.Verdict.{commitments_of, shares_by, secret_from, from_shares, is_opened, secret_by}
 use Rattle.verdicts.specs.declared.Secret.TheVariants.{Opened, Recovered, Stuck}
 use Rattle.demand3.specs.Claims.{RightlyOpened, power_of_h}
+use Rattle.std.specs.Prelude.{is_ok}
 
 -- ---- the opening
 module _ {S : Setting} {b : List ℕ} (F : Reached S b) (d : ℕ) where
@@ -45,7 +45,7 @@ module _ {S : Setting} {b : List ℕ} (F : Reached S b) (d : ℕ) where
   right-opened o =
       let e = only-opening o in
       true-and (ltb (opening_place b d) (records_in b)) _ (lt-ltb (opening_place b d) (records_in b) (omega (arith, o.inside)))
-      (ap (λ (i : ℕ). is_value (opening_in S (commitments_of S b d) (u_of (record_at b i)))) (sym e) ∙ ap is_value o.right)
+      (ap (λ (i : ℕ). is_ok (opening_in S (commitments_of S b d) (u_of (record_at b i)))) (sym e) ∙ ap is_ok o.right)
 
 -- ---- the three sources of a secret
 pub data Source (J : Judges) (S : Setting) (b : List ℕ) (d : ℕ) : Type 0 where

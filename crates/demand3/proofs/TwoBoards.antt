@@ -9,7 +9,7 @@ use Prim.Native.Nat.{ℕ, ◌≤◌, ◌<◌}
 use native.Mathlib.Omega.{arith}
 use lib.ListN.{length, take}
 use Rattle.words.specs.Lists.{All, map}
-use Rattle.words.specs.Checks.{value, Met}
+use Rattle.words.specs.Checks.{Met}
 use Rattle.words.specs.Bytes.{record_at}
 use Rattle.words.proofs.Lists.{All-to, map_same}
 use Rattle.words.proofs.Stages.{front-outcome}
@@ -39,6 +39,7 @@ use Rattle.demand3.proofs.Serving.{serving, serving-shares, serving-recover}
 use Rattle.demand3.proofs.Sources.{Source, opened, recovers, stuck, source_of, stuck-exactly}
 use Rattle.demand3.proofs.VerdictCases.{verdict-rules}
 use Rattle.demand3.proofs.Endings.{end-rules}
+use Rattle.std.specs.Prelude.{Ok}
 
 -- ---- one recoverable dealing
 module _ {J : Judges} {S : Setting} (P : ProperSetting S) {b : List ℕ} (F : Reached S b) {d : ℕ} {f : List ℕ} (A : Recoverable J S b d f) where
@@ -81,7 +82,7 @@ module _ (J : Judges) (S : Setting) (P : ProperSetting S) (b : List ℕ) (f : �
       ∙ sum-secret S P (accepted_dealers J S b) f
       (All-to (accepted_dealers J S b) (λ d k. k.polynomial) (carried-each J S b A.carried))
 
-  added-ends : S.t ≤ length (accepted_dealers J S b) → draw_in J S b ≡ value (record { 0 = secrets_of J S b f })
+  added-ends : S.t ≤ length (accepted_dealers J S b) → draw_in J S b ≡ Ok (record { 0 = secrets_of J S b f })
   added-ends l =
       ((end-rules J S P b A.reached).drawn (record { 0 = secrets_of J S b f })).1 (l, inr (A.stuck, A.enough, sym added-value))
 
@@ -105,7 +106,7 @@ module _ (J : Judges) (S : Setting) (P : ProperSetting S) (b : List ℕ) (f : �
       let a = ((verdict-rules J S P b A.reached s.0).accepted Stuck).0 s.3 in
       not_stuck P F (A.recoverable s.0 s.1 s.2 a.0) a.1
 
-  secrets-end : S.t ≤ length (accepted_dealers J S b) → draw_in J S b ≡ value (record { 0 = secrets_of J S b f })
+  secrets-end : S.t ≤ length (accepted_dealers J S b) → draw_in J S b ≡ Ok (record { 0 = secrets_of J S b f })
   secrets-end l =
       ((end-rules J S P b A.reached).drawn (record { 0 = secrets_of J S b f })).1 (l, inl (none_stuck, ap (product_of S.group.p) (sym secrets)))
 
@@ -114,7 +115,7 @@ module _ (J : Judges) (S : Setting) (P : ProperSetting S) (b : List ℕ) (f : �
   all-carried : AllCarried J S b f
   all-carried = ⊎_elim (λ r d h u a. (r.recoverable d h u a).carries) (λ t. t.carried) A
 
-  ends-in : S.t ≤ length (accepted_dealers J S b) → draw_in J S b ≡ value (record { 0 = secrets_of J S b f })
+  ends-in : S.t ≤ length (accepted_dealers J S b) → draw_in J S b ≡ Ok (record { 0 = secrets_of J S b f })
   ends-in = ⊎_elim (secrets-end J S P b f) (added-ends J S P b f) A
 
 -- ---- both boards, in the setting S and in T, which is S under other numbers and either rule
@@ -125,7 +126,7 @@ module _ (J : Judges) (S : Setting) (P : ProperSetting S) (number round : ℕ) (
   either-renumbered : TwoBoards EitherTrue J S T (draw_in J S) (draw_in J T)
   either-renumbered b c f₁ f₂ A C M l = (
     ends-in J S P b f₁ A l,
-    ends-in J T P' c f₂ C (subst (λ (ds : List ℕ). S.t ≤ length ds) same l) ∙ (λ j. value (record { 0 = sym other j })),
+    ends-in J T P' c f₂ C (subst (λ (ds : List ℕ). S.t ≤ length ds) same l) ∙ (λ j. Ok (record { 0 = sym other j })),
   )
     where
       P' : ProperSetting T

@@ -9,7 +9,7 @@ use native.Mathlib.Omega.{arith}
 use borrow.Author.Tests.{ne_eqb, eqb-true, eqb-false}
 use lib.Dec.{eqb}
 use Rattle.words.specs.Choice.{pick}
-use Rattle.words.specs.Checks.{Outcome, value, refused, is_value}
+use Rattle.words.specs.Checks.{Outcome}
 use Rattle.words.specs.Bytes.{records_in, record_at}
 use Rattle.words.proofs.Tests.{false-true, pick_true, pick-false}
 use Rattle.sharing.specs.Setting.{ProperSetting}
@@ -26,14 +26,16 @@ use Rattle.board.proofs.Order.{Reached, reached}
 use Rattle.demand3.proofs.Serving.{shares-ascend}
 use Rattle.demand3.proofs.Sources.{source_of, opened-exactly, recovers-exactly, stuck-exactly}
 use Rattle.board.proofs.LineRun.{lines-exact}
+use Rattle.std.specs.Prelude.{Ok, Err, is_ok}
+use Rattle.words.specs.declared.refusal.Refusal.TheVariants.{Incomplete}
 
 -- ---- the four cases of a verdict
 pub data Case (J : Judges) (S : Setting) (b : List ℕ) (d : ℕ) : Type 0 where
   no_lines : line_count b d ≡ 0 → is_accepted J S b d ≡ false → verdict_on J S b d ≡ None → Case J S b d
-  some-lines : (line_count b d ≡ 0 → ⊥) → (line_count b d ≡ S.n → ⊥) → is_accepted J S b d ≡ false → verdict_on J S b d ≡ Refused 12 → Case J S b d
-  refused-lines : line_count b d ≡ S.n → (k : ℕ) → dealing_answer J S b d ≡ refused k → is_accepted J S b d ≡ false → verdict_on J S b d ≡ Refused k
+  some-lines : (line_count b d ≡ 0 → ⊥) → (line_count b d ≡ S.n → ⊥) → is_accepted J S b d ≡ false → verdict_on J S b d ≡ Refused Incomplete → Case J S b d
+  refused-lines : line_count b d ≡ S.n → (k : ℕ) → dealing_answer J S b d ≡ Err k → is_accepted J S b d ≡ false → verdict_on J S b d ≡ Refused k
       → Case J S b d
-  accepted-lines : line_count b d ≡ S.n → dealing_answer J S b d ≡ value tt → is_accepted J S b d ≡ true → verdict_on J S b d ≡ Accepted (secret_by J S b d)
+  accepted-lines : line_count b d ≡ S.n → dealing_answer J S b d ≡ Ok tt → is_accepted J S b d ≡ true → verdict_on J S b d ≡ Accepted (secret_by J S b d)
       → Case J S b d
 
 module _ (J : Judges) {S : Setting} (P : ProperSetting S) {b : List ℕ} (F : Reached S b) (d : ℕ) where
@@ -48,16 +50,16 @@ module _ (J : Judges) {S : Setting} (P : ProperSetting S) {b : List ℕ} (F : Re
       by_tests true y a e f g =
           let z = eqb-true (line_count b d) 0 e in
           let w : eqb (line_count b d) S.n ≡ false = ne_eqb (line_count b d) S.n (λ s. omega (arith, some-members)) in
-          no_lines z (ap (λ (t : Bool). t && is_value (dealing_answer J S b d)) w) (pick_true (eqb (line_count b d) 0) _ _ e)
+          no_lines z (ap (λ (t : Bool). t && is_ok (dealing_answer J S b d)) w) (pick_true (eqb (line_count b d) 0) _ _ e)
       by_tests false false a e f g =
-          some-lines (eqb-false (line_count b d) 0 e) (eqb-false (line_count b d) S.n f) (ap (λ (t : Bool). t && is_value (dealing_answer J S b d)) f)
+          some-lines (eqb-false (line_count b d) 0 e) (eqb-false (line_count b d) S.n f) (ap (λ (t : Bool). t && is_ok (dealing_answer J S b d)) f)
           (pick-false (eqb (line_count b d) 0) _ _ e ∙ pick-false (eqb (line_count b d) S.n) _ _ f)
-      by_tests false true (refused k) e f g =
-          refused-lines (eqb-true (line_count b d) S.n f) k g (λ j. f j && is_value (g j))
-          (pick-false (eqb (line_count b d) 0) _ _ e ∙ (λ j. pick (f j) (verdict_from (g j) (secret_by J S b d)) (Refused 12)))
-      by_tests false true (value u) e f g =
-          accepted-lines (eqb-true (line_count b d) S.n f) g (λ j. f j && is_value (g j))
-          (pick-false (eqb (line_count b d) 0) _ _ e ∙ (λ j. pick (f j) (verdict_from (g j) (secret_by J S b d)) (Refused 12)))
+      by_tests false true (Err k) e f g =
+          refused-lines (eqb-true (line_count b d) S.n f) k g (λ j. f j && is_ok (g j))
+          (pick-false (eqb (line_count b d) 0) _ _ e ∙ (λ j. pick (f j) (verdict_from (g j) (secret_by J S b d)) (Refused Incomplete)))
+      by_tests false true (Ok u) e f g =
+          accepted-lines (eqb-true (line_count b d) S.n f) g (λ j. f j && is_ok (g j))
+          (pick-false (eqb (line_count b d) 0) _ _ e ∙ (λ j. pick (f j) (verdict_from (g j) (secret_by J S b d)) (Refused Incomplete)))
 
   -- ---- no lines
   none-count : (line_count b d ≡ 0) ↔ ((i : ℕ) → i < records_in b → (record_at b i).w0 ≡ line_kind → dealer_of (record_at b i) ≡ d → ⊥)
@@ -81,18 +83,18 @@ module _ (J : Judges) {S : Setting} (P : ProperSetting S) {b : List ℕ} (F : Re
 
   -- ---- refused and accepted
   refuses-exactly : Case J S b d → (k : ℕ) → (verdict_on J S b d ≡ Refused k)
-      ↔ (((line_count b d ≡ 0 → ⊥) × (line_count b d ≡ S.n → ⊥) × (k ≡ 12)) ⊎ ((line_count b d ≡ S.n) × (dealing_answer J S b d ≡ refused k)))
+      ↔ (((line_count b d ≡ 0 → ⊥) × (line_count b d ≡ S.n → ⊥) × (k ≡ 12)) ⊎ ((line_count b d ≡ S.n) × (dealing_answer J S b d ≡ Err k)))
   refuses-exactly (no_lines z a v) k =
       (λ h. absurd (false-true (cc)), ⊎_elim (λ h. absurd (h.0 z)) (λ h. absurd (omega (arith, some-members, h.0))))
   refuses-exactly (some-lines n l a v) k = (λ h. inl (n, l, cc), ⊎_elim (λ h. v ∙ ap Refused (sym h.2)) (λ h. absurd (l h.0)))
   refuses-exactly (refused-lines l i g a v) k = (
-    λ h. inr (l, let s : i ≡ k = cc in g ∙ ap refused s),
+    λ h. inr (l, let s : i ≡ k = cc in g ∙ ap Err s),
     ⊎_elim (λ h. absurd (h.1 l)) (λ h. let e = h.1 in let s : i ≡ k = cc in v ∙ ap Refused s),
   )
   refuses-exactly (accepted-lines l g a v) k =
       (λ h. absurd (false-true (cc)), ⊎_elim (λ h. absurd (h.1 l)) (λ h. let e = h.1 in absurd (false-true (cc))))
 
-  accepts-exactly : Case J S b d → (is_accepted J S b d ≡ true) ↔ ((line_count b d ≡ S.n) × (dealing_answer J S b d ≡ value tt))
+  accepts-exactly : Case J S b d → (is_accepted J S b d ≡ true) ↔ ((line_count b d ≡ S.n) × (dealing_answer J S b d ≡ Ok tt))
   accepts-exactly (no_lines z a v) = (λ h. absurd (false-true (cc)), λ h. absurd (omega (arith, some-members, h.0)))
   accepts-exactly (some-lines n l a v) = (λ h. absurd (false-true (cc)), λ h. absurd (l h.0))
   accepts-exactly (refused-lines l k g a v) = (λ h. absurd (false-true (cc)), λ h. let e = h.1 in absurd (false-true (cc)))

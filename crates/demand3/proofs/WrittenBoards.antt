@@ -9,7 +9,7 @@ use native.Mathlib.Omega.{arith}
 use lib.ListN.{length}
 use Rattle.words.specs.Choice.{pick}
 use Rattle.words.specs.Lists.{All, map, entry}
-use Rattle.words.specs.Checks.{Outcome, value, Met}
+use Rattle.words.specs.Checks.{Outcome, Met}
 use Rattle.words.proofs.Lists.{All-to, up-length}
 use Rattle.group.specs.declared.Element.{Element}
 use Rattle.sharing.specs.Setting.{ProperSetting, OneGroup, setting_in, members}
@@ -32,6 +32,7 @@ use Rattle.demand3.specs.Complete.{WrittenLines, WrittenBoard, WrittenStuck, Eit
 use Rattle.demand3.proofs.Serving.{serving, serving-shares}
 use Rattle.demand3.proofs.TwoBoards.{same-draw-either}
 use Rattle.demand3.proofs.Complete.{lines-accepted, rightly, shares-enough, opened-true, opened-enough, added-kind, added_true}
+use Rattle.std.specs.Prelude.{Ok}
 
 -- a test that every number passes leaves none out
 filter-every : (t : ℕ → Bool) (xs : List ℕ) → All (λ x. t x ≡ true) xs → filter t xs ≡ xs
@@ -76,18 +77,18 @@ module _ (S : Setting) (P : ProperSetting S) (word : S.round < 2 ^ 32) (b : List
 
   -- demand 3 for the board beside itself
   module _ (draw : List ℕ → Outcome Element) (same : TwoBoards EitherTrue judges S S draw draw) where
-    ends : EitherWritten S b f → S.t ≤ length (accepted_dealers judges S b) → draw b ≡ value (record { 0 = secrets_of judges S b f })
+    ends : EitherWritten S b f → S.t ≤ length (accepted_dealers judges S b) → draw b ≡ Ok (record { 0 = secrets_of judges S b f })
     ends B l = (same b b f f (either B) (either B) (record { dealers = λ d h u. refl; commitments = λ d h u a. refl }) l).0
 
     all-dealt : EitherWritten S b f → ((d : ℕ) → 1 ≤ d → d ≤ S.n → WrittenLines S b d (f d))
-        → draw b ≡ value (record { 0 = product_of S.group.p (map (λ d. power_of_h S.group (secret_of S (f d))) (members S.n)) })
+        → draw b ≡ Ok (record { 0 = product_of S.group.p (map (λ d. power_of_h S.group (secret_of S (f d))) (members S.n)) })
     all-dealt B W =
         let met : Met (board_checks S b) = ⊎_elim (λ B. B.reached) (λ B. B.reached) B in
         let every : accepted_dealers judges S b ≡ members S.n =
         filter-every (is_accepted judges S b) (members S.n)
         (each-members (λ d. is_accepted judges S b d ≡ true) S.n (λ d h l. lines-accepted S P word b met d (f d) (W d h l))) in
         ends B (omega (arith, P.t-most, ap length every, up-length 1 S.n))
-        ∙ (λ j. value (record { 0 = product_of S.group.p (map (λ d. power_of_h S.group (secret_of S (f d))) (every j)) }))
+        ∙ (λ j. Ok (record { 0 = product_of S.group.p (map (λ d. power_of_h S.group (secret_of S (f d))) (every j)) }))
 
     written-ends : WrittenEnds S draw b f
     written-ends = record { recoverable = recoverable; added_true = added-all-true; ends = ends; all-dealt = all-dealt }

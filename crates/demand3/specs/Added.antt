@@ -1,7 +1,6 @@
 -- What is claimed of added shares on judged boards, in every proper setting: what they are shares of, the draw value that true ones give,
 -- and the last sentence of demand 3 with them. The last line reads that off for rounds.
-use Rattle.std.specs.Prelude.{◌≡◌, List, ℕ, ◌≤◌, length}
-use Rattle.words.specs.Checks.{value}
+use Rattle.std.specs.Prelude.{◌≡◌, List, ℕ, ◌≤◌, length, Ok}
 use Rattle.sharing.specs.Setting.{ProperSetting}
 use Rattle.sharing.specs.Carried.{Carries}
 use Rattle.sharing.specs.declared.Setting.{Setting}
@@ -22,7 +21,7 @@ SumCarriesBoard =
 abbrev pub AddedDraw : Type 0
 AddedDraw =
     (J : Judges) (S : Setting) → ProperSetting S → (b : List ℕ) (f : ℕ → List ℕ) → AddedTrue J S b f
-    → S.t ≤ length (accepted_dealers J S b) → draw_in J S b ≡ value (record { 0 = secrets_of J S b f })
+    → S.t ≤ length (accepted_dealers J S b) → draw_in J S b ≡ Ok (record { 0 = secrets_of J S b f })
 
 -- Two boards as in demand 3, each ending by separate secrets or by true added shares, end in the same value: in any two settings of one
 -- group, n and t, and as the board judge answers over tables and rounds.

@@ -1,8 +1,8 @@
 -- What is claimed of judged boards, in every proper setting: the rules of verdicts, how a board ends, and the last sentence of demand 3.
 -- DrawByRound reads this off for rounds, as the board judge answers.
-use Rattle.std.specs.Prelude.{◌≡◌, true, List, ◌⊎◌, ◌↔◌, ℕ, ◌<◌, ◌≤◌, length, take}
+use Rattle.std.specs.Prelude.{◌≡◌, true, List, ◌⊎◌, ◌↔◌, ℕ, ◌<◌, ◌≤◌, length, take, Ok, Err}
 use Rattle.words.specs.Lists.{All, map}
-use Rattle.words.specs.Checks.{Outcome, value, refused, Met, FirstUnmet}
+use Rattle.words.specs.Checks.{Outcome, Met, FirstUnmet}
 use Rattle.words.specs.Bytes.{records_in, record_at}
 use Rattle.field.specs.Polynomial.{value_at}
 use Rattle.group.specs.Power.{pow}
@@ -24,6 +24,7 @@ use Rattle.verdicts.specs.Draw.{count_accepted, secret_value, draw_in, draw_outc
 use Rattle.verdicts.specs.declared.Secret.{Secret}
 use Rattle.verdicts.specs.declared.Secret.TheVariants.{Opened, Recovered, Stuck}
 use Rattle.verdicts.specs.declared.Verdict.TheVariants.{None, Refused, Accepted}
+use Rattle.words.specs.declared.refusal.Refusal.TheVariants.{StillStuck, TooFew}
 
 -- ---- words of the claims
 -- the board's kind 3 record of the dealer holds an opening accepted for his commitments
@@ -32,7 +33,7 @@ pub record RightlyOpened (S : Setting) (b : List ℕ) (d : ℕ) : Type 0 where
   pub inside : at < records_in b
   pub kind : (record_at b at).w0 ≡ opening_kind
   pub dealer : dealer_of (record_at b at) ≡ d
-  pub right : opening_in S (commitments_of S b d) (u_of (record_at b at)) ≡ value tt
+  pub right : opening_in S (commitments_of S b d) (u_of (record_at b at)) ≡ Ok tt
 
 -- his dealing is rightly opened or has t or more accepted shares
 abbrev pub Revealed : Judges → Setting → List ℕ → ℕ → Type 0
@@ -48,9 +49,9 @@ pub record VerdictRule (J : Judges) (S : Setting) (b : List ℕ) (d : ℕ) : Typ
   pub none : (verdict_on J S b d ≡ None) ↔ ((i : ℕ) → i < records_in b → (record_at b i).w0 ≡ line_kind → dealer_of (record_at b i) ≡ d → ⊥)
   -- refused by 12 where he has some lines but not n, and by the judge's number where it refuses his n lines
   pub refuses : (k : ℕ) → (verdict_on J S b d ≡ Refused k)
-      ↔ (((line_count b d ≡ 0 → ⊥) × (line_count b d ≡ S.n → ⊥) × (k ≡ 12)) ⊎ ((line_count b d ≡ S.n) × (dealing_answer J S b d ≡ refused k)))
+      ↔ (((line_count b d ≡ 0 → ⊥) × (line_count b d ≡ S.n → ⊥) × (k ≡ 12)) ⊎ ((line_count b d ≡ S.n) × (dealing_answer J S b d ≡ Err k)))
   -- accepted where the judge accepts his n lines
-  pub accepts : (is_accepted J S b d ≡ true) ↔ ((line_count b d ≡ S.n) × (dealing_answer J S b d ≡ value tt))
+  pub accepts : (is_accepted J S b d ≡ true) ↔ ((line_count b d ≡ S.n) × (dealing_answer J S b d ≡ Ok tt))
   pub accepted : (s : Secret) → (verdict_on J S b d ≡ Accepted s) ↔ ((is_accepted J S b d ≡ true) × (secret_by J S b d ≡ s))
   -- the secret is opened exactly where the board's kind 3 record of the dealer holds an accepted opening, and is h to it
   pub opened : (v : Element) → (secret_by J S b d ≡ Opened v) ↔ ((o : RightlyOpened S b d) × (v.0 ≡ power_of_h S.group (u_of (record_at b o.at))))
@@ -67,7 +68,7 @@ VerdictRules = (J : Judges) (S : Setting) → ProperSetting S → (b : List ℕ)
 -- ---- how a board ends
 -- a board that a check before the verdicts refuses: "Verdicts are reached only on a board that no check before them refuses"
 abbrev pub RefusedBefore : Type 0
-RefusedBefore = (J : Judges) (S : Setting) (b : List ℕ) (k : ℕ) → FirstUnmet k (board_checks S b) → draw_in J S b ≡ refused k
+RefusedBefore = (J : Judges) (S : Setting) (b : List ℕ) (k : ℕ) → FirstUnmet k (board_checks S b) → draw_in J S b ≡ Err k
 
 abbrev pub SomeStuck : Judges → Setting → List ℕ → Type 0
 SomeStuck J S b = (d : ℕ) × (1 ≤ d) × (d ≤ S.n) × (verdict_on J S b d ≡ Accepted Stuck)
@@ -88,11 +89,11 @@ pub record EndRule (J : Judges) (S : Setting) (b : List ℕ) : Type 0 where
   -- the count of accepted dealings, stuck ones included
   pub count : count_accepted (verdicts_on J S b) ≡ length (accepted_dealers J S b)
   -- 14 exactly where fewer than t dealings are accepted
-  pub fourteen : (draw_in J S b ≡ refused 14) ↔ (length (accepted_dealers J S b) < S.t)
+  pub fourteen : (draw_in J S b ≡ Err TooFew) ↔ (length (accepted_dealers J S b) < S.t)
   -- 13 exactly where t or more are accepted, one is stuck, and fewer than t added shares are accepted
-  pub thirteen : (draw_in J S b ≡ refused 13) ↔ ((S.t ≤ length (accepted_dealers J S b)) × SomeStuck J S b × (length (added_by J S b) < S.t))
+  pub thirteen : (draw_in J S b ≡ Err StillStuck) ↔ ((S.t ≤ length (accepted_dealers J S b)) × SomeStuck J S b × (length (added_by J S b) < S.t))
   -- a draw exactly where t or more are accepted and it comes from the secrets or, where one is stuck, from added shares
-  pub drawn : (v : Element) → (draw_in J S b ≡ value v)
+  pub drawn : (v : Element) → (draw_in J S b ≡ Ok v)
       ↔ ((S.t ≤ length (accepted_dealers J S b)) × (DrawnBySecrets J S b v ⊎ DrawnByAdded J S b v))
   pub lowest-first : Ascending (map (λ i. member_of (record_at b i)) (added_by J S b))
 
@@ -158,7 +159,7 @@ abbrev pub TwoBoards : Asked → Judges → Setting → Setting → (List ℕ �
 TwoBoards A J S T draw₁ draw₂ =
     (b c : List ℕ) (f₁ f₂ : ℕ → List ℕ) → A J S b f₁ → A J T c f₂ → SameDealings J S T b c
     → S.t ≤ length (accepted_dealers J S b)
-    → (draw₁ b ≡ value (record { 0 = secrets_of J S b f₁ })) × (draw₂ c ≡ value (record { 0 = secrets_of J S b f₁ }))
+    → (draw₁ b ≡ Ok (record { 0 = secrets_of J S b f₁ })) × (draw₂ c ≡ Ok (record { 0 = secrets_of J S b f₁ }))
 
 -- in every two proper settings of one group, n and t: what is accepted decides the draw value, and neither the number that the group has in a
 -- table, nor the round, nor the rule by which challenges were made; nothing is asked of the judges
@@ -170,7 +171,7 @@ SameDraw A J = (S T : Setting) → ProperSetting S → ProperSetting T → OneGr
 -- whichever group of an accepted table it has, and the board judge answers what it answers there, so F holds of its answers: for two offices,
 -- each with a table and a round of its own, where the two rounds have one n and t, and each the same group under its number in its table
 pub record DrawOverRound (A : Asked) (J : Judges) (T : List ℕ) (R : Round) : Type 0 where
-  pub refuses : (b : List ℕ) (k : ℕ) → FirstUnmet k (round_checks T R) → draw_outcome J T R b ≡ refused k
+  pub refuses : (b : List ℕ) (k : ℕ) → FirstUnmet k (round_checks T R) → draw_outcome J T R b ≡ Err k
   pub proper : Met (round_checks T R) → ProperSetting (setting_in T R)
   pub draw-in : Met (round_checks T R) → (b : List ℕ) → draw_outcome J T R b ≡ draw_in J (setting_in T R) b
   pub same-draw : Met (round_checks T R) → (T' : List ℕ) (R' : Round) → Met (round_checks T' R') → OneGroup (setting_in T R) (setting_in T' R')

@@ -1,9 +1,9 @@
 -- Completeness on a board: what is written with proper figures and stands on a board is accepted there and true, and a board with enough
 -- of it ends in the product of the h^s. In every proper setting of a round whose number is a word, by the judges of this repository; the
 -- last line reads it off for tables and rounds.
-use Rattle.std.specs.Prelude.{◌≡◌, Bool, true, List, ◌⊎◌, ℕ, ◌*◌, ◌^◌, ◌<◌, ◌≤◌, length, take, drop}
+use Rattle.std.specs.Prelude.{◌≡◌, Bool, true, List, ◌⊎◌, ℕ, ◌*◌, ◌^◌, ◌<◌, ◌≤◌, length, take, drop, Ok}
 use Rattle.words.specs.Lists.{All, map, entry}
-use Rattle.words.specs.Checks.{Outcome, value, Met}
+use Rattle.words.specs.Checks.{Outcome, Met}
 use Rattle.words.specs.Bytes.{records_in, record_at}
 use Rattle.field.specs.Polynomial.{value_at}
 use Rattle.group.specs.Power.{pow}
@@ -30,7 +30,7 @@ use Rattle.demand3.specs.Claims.{RightlyOpened, power_of_h, SomeStuck, AllRecove
 -- the lines of the dealer d are what the writer writes, with the board's keys, from the polynomial f and some nonces
 pub record WrittenLines (S : Setting) (b : List ℕ) (d : ℕ) (f : List ℕ) : Type 0 where
   pub nonces : List ℕ
-  pub writes : write_dealing_in S d (keys_in S.n b) f nonces (32 * S.n) ≡ value tt
+  pub writes : write_dealing_in S d (keys_in S.n b) f nonces (32 * S.n) ≡ Ok tt
   pub written : lines_of b d ≡ written_dealing S d (keys_in S.n b) f nonces
 
 -- a record is the opening u of the dealer d
@@ -44,7 +44,7 @@ pub record WrittenShare (S : Setting) (b : List ℕ) (F : ShareForm) (Y m i : �
   pub secret-key : ℕ
   pub nonce : ℕ
   pub key : key_in b m ≡ key_of S.group secret-key
-  pub writes : write_share_in S F m Y secret-key nonce 32 ≡ value tt
+  pub writes : write_share_in S F m Y secret-key nonce 32 ≡ Ok tt
   pub written : take 32 (drop (32 * i) b) ≡ written_share S F m Y secret-key nonce
 
 -- as an opened share of the dealing of d, from the Y in the line for him
@@ -86,9 +86,9 @@ pub record CompleteOn (S : Setting) (b : List ℕ) : Type 0 where
       → RightlyOpened S b d × (secret_by judges S b d ≡ Opened (record { 0 = power_of_h S.group (secret_of S f) }))
   -- with a secret key and a nonce a member can write an opened share of every accepted dealing, and an added share
   pub can-open : (d m x w : ℕ) → is_accepted judges S b d ≡ true → 1 ≤ m → m ≤ S.n → 1 ≤ x → x < S.group.q → w < S.group.q
-      → write_share_in S (opened_form d) m (Y_in (lines_of b d) m) x w 32 ≡ value tt
+      → write_share_in S (opened_form d) m (Y_in (lines_of b d) m) x w 32 ≡ Ok tt
   pub can-add : (m x w : ℕ) → 1 ≤ m → m ≤ S.n → 1 ≤ x → x < S.group.q → w < S.group.q
-      → write_share_in S added_form m (entry (multiplied judges S b Y_in) m) x w 32 ≡ value tt
+      → write_share_in S added_form m (entry (multiplied judges S b Y_in) m) x w 32 ≡ Ok tt
   -- an opened share is accepted, and it is true where the dealing is
   pub opened : (d m i : ℕ) → OpenedOn S b d m i
       → (is_share_by judges S b d i ≡ true)
@@ -127,9 +127,9 @@ EitherWritten S b f = WrittenBoard S b f ⊎ WrittenStuck S b f
 pub record WrittenEnds (S : Setting) (draw : List ℕ → Outcome Element) (b : List ℕ) (f : ℕ → List ℕ) : Type 0 where
   pub recoverable : WrittenBoard S b f → AllRecoverable judges S b f
   pub added_true : WrittenStuck S b f → AddedTrue judges S b f
-  pub ends : EitherWritten S b f → S.t ≤ length (accepted_dealers judges S b) → draw b ≡ value (record { 0 = secrets_of judges S b f })
+  pub ends : EitherWritten S b f → S.t ≤ length (accepted_dealers judges S b) → draw b ≡ Ok (record { 0 = secrets_of judges S b f })
   pub all-dealt : EitherWritten S b f → ((d : ℕ) → 1 ≤ d → d ≤ S.n → WrittenLines S b d (f d))
-      → draw b ≡ value (record { 0 = product_of S.group.p (map (λ d. power_of_h S.group (secret_of S (f d))) (members S.n)) })
+      → draw b ≡ Ok (record { 0 = product_of S.group.p (map (λ d. power_of_h S.group (secret_of S (f d))) (members S.n)) })
 
 abbrev pub WrittenBoardsEnd : Type 0
 WrittenBoardsEnd =

@@ -1,9 +1,8 @@
 -- What a board answers lies in its group: every secret, opened or recovered, and the draw value, from secrets or from added shares. So
 -- picking plots and extending a chain take a draw value as the board judge answers it, and never refuse it by 6.
-use Rattle.std.specs.Prelude.{◌≡◌, true, ◌&&◌, List, [], ◌∷◌, ◌++◌, ◌⊎◌, ℕ, ltb, eqb}
+use Rattle.std.specs.Prelude.{◌≡◌, true, ◌&&◌, List, [], ◌∷◌, ◌++◌, ◌⊎◌, ℕ, ltb, eqb, Ok, Err}
 use Rattle.words.specs.Lists.{All}
-use Rattle.words.specs.Numbers.{bad_length}
-use Rattle.words.specs.Checks.{Check, ◌unless◌, value, refused, outcome, Met}
+use Rattle.words.specs.Checks.{Check, ◌unless◌, outcome, Met}
 use Rattle.words.specs.Bytes.{record_in}
 use Rattle.group.specs.Element.{is_element}
 use Rattle.group.specs.declared.Element.{Element}
@@ -24,6 +23,7 @@ use Rattle.verdicts.specs.declared.Verdict.TheVariants.{Accepted}
 use Rattle.rulings.specs.Ruling.{JudgementOf}
 use Rattle.plots.specs.Picked.{plot_checks, pick_outcome}
 use Rattle.chain.specs.Chain.{links_in, chain_checks, chain_outcome, extend_outcome}
+use Rattle.words.specs.declared.refusal.Refusal.TheVariants.{BadLength, NoElement}
 
 -- ---- words of the claims
 -- the secret of a verdict, opened or recovered, is an element; the other verdicts have none
@@ -33,13 +33,13 @@ SecretElement G w = (v : Element) → (w ≡ Accepted (Opened v)) ⊎ (w ≡ Acc
 -- the judge of shares accepts no record whose Z is not an element
 abbrev pub TakesElements : Judges → Type 0
 TakesElements J =
-    (S : Setting) (F : ShareForm) (i y Y : ℕ) (b : List ℕ) (Z : Element) → J.share S F i y Y b ≡ value Z
+    (S : Setting) (F : ShareForm) (i y Y : ℕ) (b : List ℕ) (Z : Element) → J.share S F i y Y b ≡ Ok Z
     → is_element S.group (Z_of (record_in b)) ≡ true
 
 -- ---- secrets and draws
 pub record ElementsOn (J : Judges) (S : Setting) (b : List ℕ) : Type 0 where
   pub secret : (d : ℕ) → SecretElement S.group (verdict_on J S b d)
-  pub draw : (v : Element) → draw_in J S b ≡ value v → is_element S.group v.0 ≡ true
+  pub draw : (v : Element) → draw_in J S b ≡ Ok v → is_element S.group v.0 ≡ true
 
 -- on every board whose verdicts are reached, by any judges of whom the one of shares takes elements only
 abbrev pub BoardElements : Type 0
@@ -54,7 +54,7 @@ JudgesTakeElements = TakesElements judges
 pub record ElementsAnswered (T : List ℕ) (R : Round) (b : List ℕ) : Type 0 where
   pub secrets : (A : Judgement) → JudgementOf judges T R b A
       → All (λ w. SecretElement (setting_in T R).group w.verdict) A.verdicts
-  pub draw : (v : Element) → draw_outcome judges T R b ≡ value v → is_element (setting_in T R).group v.0 ≡ true
+  pub draw : (v : Element) → draw_outcome judges T R b ≡ Ok v → is_element (setting_in T R).group v.0 ≡ true
 
 abbrev pub AnswersElements : Type 0
 AnswersElements = (T : List ℕ) (R : Round) (b : List ℕ) → ElementsAnswered T R b
@@ -63,25 +63,25 @@ AnswersElements = (T : List ℕ) (R : Round) (b : List ℕ) → ElementsAnswered
 -- picking plots by it answers what the radius, N, k and the length of the list decide: by 15, 16 or 3 it may be refused, by no other number
 pub record PicksDraw (T : List ℕ) (number : ℕ) (v : Element) (radius N k room : ℕ) : Type 0 where
   pub answer : pick_outcome T number v radius N k room ≡ outcome (plot_checks radius N k room) tt
-  pub not-by-6 : pick_outcome T number v radius N k room ≡ refused 6 → ⊥
+  pub not-by-6 : pick_outcome T number v radius N k room ≡ Err NoElement → ⊥
 
 abbrev pub DrawPicks : Type 0
 DrawPicks =
-    (T : List ℕ) (R : Round) (b : List ℕ) (v : Element) → draw_outcome judges T R b ≡ value v
+    (T : List ℕ) (R : Round) (b : List ℕ) (v : Element) → draw_outcome judges T R b ≡ Ok v
     → (radius N k room : ℕ) → PicksDraw T R.group v radius N k room
 
 -- what extending a chain tests beside the chain and the draw value: that it is not full, and room for one link
 abbrev pub link_room : List ℕ → ℕ → List Check
-link_room c room = bad_length unless (ltb (links_in c) 1024 && eqb room 64) ∷ []
+link_room c room = BadLength unless (ltb (links_in c) 1024 && eqb room 64) ∷ []
 
 -- extending by it is refused by the chain's own number where the chain is refused, and else by that 3 alone. So 6 can only come from a link
 -- that stands in the chain already, and never where the table accepts the chain
 pub record ExtendsByDraw (T : List ℕ) (number v : ℕ) (c : List ℕ) (room : ℕ) : Type 0 where
   pub answer : extend_outcome T c number v room ≡ outcome (chain_checks T c ++ link_room c room) tt
-  pub accepted : chain_outcome T c ≡ value tt → extend_outcome T c number v room ≡ outcome (link_room c room) tt
-  pub not-by-6 : chain_outcome T c ≡ value tt → extend_outcome T c number v room ≡ refused 6 → ⊥
+  pub accepted : chain_outcome T c ≡ Ok tt → extend_outcome T c number v room ≡ outcome (link_room c room) tt
+  pub not-by-6 : chain_outcome T c ≡ Ok tt → extend_outcome T c number v room ≡ Err NoElement → ⊥
 
 abbrev pub DrawExtends : Type 0
 DrawExtends =
-    (T : List ℕ) (R : Round) (b : List ℕ) (v : Element) → draw_outcome judges T R b ≡ value v
+    (T : List ℕ) (R : Round) (b : List ℕ) (v : Element) → draw_outcome judges T R b ≡ Ok v
     → (c : List ℕ) (room : ℕ) → ExtendsByDraw T R.group v.0 c room

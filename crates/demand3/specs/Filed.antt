@@ -2,11 +2,10 @@
 -- spare word like the others, refused by 4, the messages have nothing of the round in them, their digests give exponents by 8 bytes, the
 -- last kind is 4, two members may have one key, and a stuck dealing is the end. In round 0 every board that was filed with zero in each
 -- word 7 and no record of kind 5 is judged as it was then, unless two of its keys are equal.
-use Rattle.std.specs.Prelude.{◌≡◌, Bool, false, not, ◌&&◌, List, [], ◌∷◌, ◌++◌, ℕ, zero, suc, ◌-◌, ◌%◌, ◌<◌, length, take, leb, eqb}
+use Rattle.std.specs.Prelude.{◌≡◌, Bool, false, not, ◌&&◌, List, [], ◌∷◌, ◌++◌, ℕ, zero, suc, ◌-◌, ◌%◌, ◌<◌, length, take, leb, eqb, Err}
 use Rattle.words.specs.Choice.{pick}
 use Rattle.words.specs.Lists.{Distinct, all, map, up_from, entry}
-use Rattle.words.specs.Numbers.{bad_length, bad_form, out_of_order, no_element, no_exponent, no_member, degree_fails, proof_fails, incomplete, still_stuck, too_few}
-use Rattle.words.specs.Checks.{Check, ◌unless◌, Outcome, refused, outcome, Met}
+use Rattle.words.specs.Checks.{Check, ◌unless◌, Outcome, outcome, Met}
 use Rattle.words.specs.Bytes.{big_endian, record_in, records_in, record_at, agrees}
 use Rattle.words.specs.declared.Record.{Record}
 use Rattle.sha256.specs.Hash.{hash}
@@ -31,6 +30,7 @@ use Rattle.verdicts.specs.Draw.{count_accepted, any_stuck, secrets_product, draw
 use Rattle.verdicts.specs.declared.Verdict.{Verdict}
 use Rattle.rulings.specs.Files.{set_checks}
 use Rattle.demand3.specs.Rounds.{RefusedOver, BoardJudge, draw_by, JudgedAs, AnsweredAs}
+use Rattle.words.specs.declared.refusal.Refusal.TheVariants.{BadLength, BadForm, OutOfOrder, NoElement, NoExponent, NoMember, DegreeFails, ProofFails, Incomplete, StillStuck, TooFew, SameKey}
 
 -- ---- the checks of the scope paper
 -- a record of its table, whose last kind is 4
@@ -44,18 +44,18 @@ filed_shaped n r =
 abbrev pub filed_record_checks : ℕ → List ℕ → ℕ → ℕ → List Check
 filed_record_checks n b i zero = []
 filed_record_checks n b i (suc m) =
-    bad_form unless filed_shaped n (record_at b i)
-    ∷ bad_form unless eqb (record_at b i).w7 0
-    ∷ out_of_order unless in_order b i
+    BadForm unless filed_shaped n (record_at b i)
+    ∷ BadForm unless eqb (record_at b i).w7 0
+    ∷ OutOfOrder unless in_order b i
     ∷ filed_record_checks n b (suc i) m
 
 abbrev pub filed_board_checks : Setting → List ℕ → List Check
 filed_board_checks S b =
     (length_checks b ++ filed_record_checks S.n b 0 (records_in b))
-    ++ (incomplete unless all (has_key b) (members S.n) ∷ filed_key_checks S.group (keys_in S.n b))
+    ++ (Incomplete unless all (has_key b) (members S.n) ∷ filed_key_checks S.group (keys_in S.n b))
 
 abbrev pub filed_line_checks : ℕ → ℕ → List ℕ → List Check
-filed_line_checks n d b = bad_form unless all (is_line_of d b) (members n) ∷ bad_form unless all (λ i. eqb (member_record b i).w7 0) (members n) ∷ []
+filed_line_checks n d b = BadForm unless all (is_line_of d b) (members n) ∷ BadForm unless all (λ i. eqb (member_record b i).w7 0) (members n) ∷ []
 
 -- the challenge of a message: the first 8 digest bytes as a number, modulo q
 abbrev pub filed_exponent : Setting → List ℕ → ℕ
@@ -76,8 +76,8 @@ filed_challenge S d ys b =
 
 abbrev pub filed_equation_checks : Setting → ℕ → List ℕ → List ℕ → List Check
 filed_equation_checks S d ys b =
-    degree_fails unless eqb (degree_product S (vs_in S.n b) (filed_polynomial S d b)) 1
-    ∷ proof_fails unless all (λ i. eqb (c_in b i) (filed_challenge S d ys b)) (members S.n)
+    DegreeFails unless eqb (degree_product S (vs_in S.n b) (filed_polynomial S d b)) 1
+    ∷ ProofFails unless all (λ i. eqb (c_in b i) (filed_challenge S d ys b)) (members S.n)
     ∷ []
 
 abbrev pub filed_dealing : Setting → ℕ → List ℕ → List ℕ → Outcome (Unit {0})
@@ -88,23 +88,23 @@ filed_dealing S d ys b =
     tt
 
 abbrev pub filed_share_checks : ℕ → ℕ → Record → List Check
-filed_share_checks d i r = bad_form unless is_share_for (opened_form d) i r ∷ bad_form unless eqb r.w7 0 ∷ []
+filed_share_checks d i r = BadForm unless is_share_for (opened_form d) i r ∷ BadForm unless eqb r.w7 0 ∷ []
 
 abbrev pub filed_share_figures : Setting → ℕ → ℕ → ℕ → ℕ → Record → List Check
 filed_share_figures S d i y Y r =
     let G = S.group in
     let a1 = announced G G.h.0 y (share_c r) (share_r r) in
     let a2 = announced G (Z_of r) Y (share_c r) (share_r r) in
-    no_element unless is_element G (Z_of r)
-    ∷ no_exponent unless (is_exponent G (share_c r) && is_exponent G (share_r r))
-    ∷ proof_fails unless eqb (share_c r) (filed_exponent S (roundless_message share_tag S d (share_figures i y Y (Z_of r) a1 a2)))
+    NoElement unless is_element G (Z_of r)
+    ∷ NoExponent unless (is_exponent G (share_c r) && is_exponent G (share_r r))
+    ∷ ProofFails unless eqb (share_c r) (filed_exponent S (roundless_message share_tag S d (share_figures i y Y (Z_of r) a1 a2)))
     ∷ []
 
 abbrev pub filed_share : Setting → ℕ → ℕ → ℕ → ℕ → List ℕ → Outcome Element
 filed_share S d i y Y b =
     let r = record_in b in
     outcome
-    (((no_member unless (is_member S.n d && is_member S.n i) ∷ []) ++ share_input_checks S.group y Y b ++ filed_share_checks d i r) ++ filed_share_figures S d i y Y r)
+    (((NoMember unless (is_member S.n d && is_member S.n i) ∷ []) ++ share_input_checks S.group y Y b ++ filed_share_checks d i r) ++ filed_share_figures S d i y Y r)
     (record { 0 = Z_of r })
 
 abbrev pub filed_judges : Judges
@@ -112,7 +112,7 @@ filed_judges = record { dealing = filed_dealing; share = λ S F. filed_share S F
 
 -- the end: 14 fewer than t accepted, then 13 a stuck dealing
 abbrev pub filed_end_checks : ℕ → List Verdict → List Check
-filed_end_checks t vs = too_few unless leb t (count_accepted vs) ∷ still_stuck unless not (any_stuck vs) ∷ []
+filed_end_checks t vs = TooFew unless leb t (count_accepted vs) ∷ StillStuck unless not (any_stuck vs) ∷ []
 
 abbrev pub filed_board : BoardJudge
 filed_board =
@@ -130,7 +130,7 @@ filed_draw S b = draw_by filed_board S b
 abbrev pub filed_set_checks : List ℕ → List Check
 filed_set_checks s =
     let r = record_in s in
-    bad_length unless eqb (length s) 32 ∷ bad_form unless agrees r (set_layout (set_group r) (set_n r) (set_t r) 0 0) ∷ []
+    BadLength unless eqb (length s) 32 ∷ BadForm unless agrees r (set_layout (set_group r) (set_n r) (set_t r) 0 0) ∷ []
 
 -- ---- the claims
 -- a board of then: zero in each word 7, and no record of kind 5
@@ -162,7 +162,7 @@ FiledSet = (s : List ℕ) → set_round (record_in s) ≡ 0 → set_first (recor
 abbrev pub FiledKeyTwice : Type 0
 FiledKeyTwice =
     (S : Setting) → S.round ≡ 0 → (b : List ℕ) → OfThen b → Met (filed_board_checks S b) → KeyTwice S.group (keys_in S.n b)
-    → draw_in judges S b ≡ refused 22
+    → draw_in judges S b ≡ Err SameKey
 
 abbrev pub FiledTwiceOverRound : Type 0
 FiledTwiceOverRound =

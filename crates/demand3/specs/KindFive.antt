@@ -1,7 +1,7 @@
 -- What records of kind 5 may change on a board, whatever the judges answer: never a verdict or the count of accepted dealings, and the end
 -- only from 13 to a draw.
-use Rattle.std.specs.Prelude.{◌≡◌, List, ◌⊎◌, ℕ, ◌*◌, ◌<◌, ◌≤◌, length, take}
-use Rattle.words.specs.Checks.{value, refused, Met}
+use Rattle.std.specs.Prelude.{◌≡◌, List, ◌⊎◌, ℕ, ◌*◌, ◌<◌, ◌≤◌, length, take, Ok, Err}
+use Rattle.words.specs.Checks.{Met}
 use Rattle.words.specs.Bytes.{records_in, record_at}
 use Rattle.group.specs.declared.Element.{Element}
 use Rattle.sharing.specs.Setting.{ProperSetting}
@@ -11,6 +11,7 @@ use Rattle.board.specs.Board.{form_checks, place_of, board_checks}
 use Rattle.verdicts.specs.Shares.{Judges}
 use Rattle.verdicts.specs.Verdict.{is_accepted, verdict_on, verdicts_on}
 use Rattle.verdicts.specs.Draw.{count_accepted, draw_in}
+use Rattle.words.specs.declared.refusal.Refusal.TheVariants.{StillStuck}
 
 -- ---- the board without its records of kind 5, which stand behind all others
 abbrev pub without_added : List ℕ → List ℕ
@@ -35,7 +36,7 @@ pub record SameButEnd (J : Judges) (S : Setting) (b : List ℕ) : Type 0 where
   pub verdict : (d : ℕ) → verdict_on J S b d ≡ verdict_on J S (without_added b) d
   pub accepted : (d : ℕ) → is_accepted J S b d ≡ is_accepted J S (without_added b) d
   pub count : count_accepted (verdicts_on J S b) ≡ count_accepted (verdicts_on J S (without_added b))
-  pub end : (draw_in J S b ≡ draw_in J S (without_added b)) ⊎ ((draw_in J S (without_added b) ≡ refused 13) × ((v : Element) × (draw_in J S b ≡ value v)))
+  pub end : (draw_in J S b ≡ draw_in J S (without_added b)) ⊎ ((draw_in J S (without_added b) ≡ Err StillStuck) × ((v : Element) × (draw_in J S b ≡ Ok v)))
 
 -- on every board whose verdicts are reached; nothing is asked of the judges
 abbrev pub AddedAtEnd : Type 0

@@ -1,6 +1,6 @@
 -- What records of kind 5 may change in the text of `draw` for a board whose verdicts are reached: the last line alone.
-use Rattle.std.specs.Prelude.{◌≡◌, List, ◌++◌, ◌⊎◌, ℕ}
-use Rattle.words.specs.Checks.{value, refused, Met}
+use Rattle.std.specs.Prelude.{◌≡◌, List, ◌++◌, ◌⊎◌, ℕ, Ok, Err}
+use Rattle.words.specs.Checks.{Met}
 use Rattle.group.specs.declared.Element.{Element}
 use Rattle.sharing.specs.Setting.{setting_in}
 use Rattle.verdicts.specs.Shares.{Judges}
@@ -10,6 +10,7 @@ use Rattle.rulings.specs.Files.{round_in}
 use Rattle.rulings.specs.Ruling.{ruling_checks}
 use Rattle.text.specs.Text.{round_line, dealer_lines, accepted_line, draw_line, draw_text}
 use Rattle.demand3.specs.KindFive.{without_added}
+use Rattle.words.specs.declared.refusal.Refusal.TheVariants.{StillStuck}
 
 -- the lines before the last: the round, the verdict on each dealer, the count of accepted dealings
 unfoldable pub lines_before : Judges → List ℕ → List ℕ → List ℕ → List ℕ
@@ -24,7 +25,7 @@ pub record SameButLastLine (J : Judges) (T s b : List ℕ) : Type 0 where
   pub with-added : draw_text J T s b ≡ lines_before J T s b ++ draw_line (draw_outcome J T (round_in s) b)
   pub without-added : draw_text J T s (without_added b) ≡ lines_before J T s b ++ draw_line (draw_outcome J T (round_in s) (without_added b))
   pub last : (draw_outcome J T (round_in s) b ≡ draw_outcome J T (round_in s) (without_added b))
-      ⊎ ((draw_outcome J T (round_in s) (without_added b) ≡ refused 13) × ((v : Element) × (draw_outcome J T (round_in s) b ≡ value v)))
+      ⊎ ((draw_outcome J T (round_in s) (without_added b) ≡ Err StillStuck) × ((v : Element) × (draw_outcome J T (round_in s) b ≡ Ok v)))
 
 -- on every board whose verdicts are reached (of any other the refusal is the whole text: text-refused); nothing is asked of the judges
 abbrev pub AddedPrinted : Type 0

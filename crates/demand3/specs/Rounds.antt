@@ -1,8 +1,8 @@
 -- What the board judge answers over a table and a round, and what `draw` prints then: where a board is refused before its verdicts, and
 -- where another board judge would give the same answers, as one that refuses nothing by 22 does where the keys are distinct.
-use Rattle.std.specs.Prelude.{◌≡◌, true, List, ◌++◌, ℕ, ◌<◌}
+use Rattle.std.specs.Prelude.{◌≡◌, true, List, ◌++◌, ℕ, ◌<◌, Err}
 use Rattle.words.specs.Lists.{Distinct, all, map}
-use Rattle.words.specs.Checks.{Check, Outcome, refused, outcome, Met, FirstUnmet, without}
+use Rattle.words.specs.Checks.{Check, Outcome, outcome, Met, FirstUnmet, without}
 use Rattle.words.specs.Bytes.{records_in, record_at}
 use Rattle.group.specs.declared.Element.{Element}
 use Rattle.sharing.specs.Setting.{setting_in, round_checks, judged, judged_else, members}
@@ -27,7 +27,7 @@ use Rattle.text.specs.Text.{refused_line, dealer_lines, accepted_line, draw_line
 -- the board judge answers k and gives no verdict; where round.set holds the round and neither it nor the table is refused, `draw` prints
 -- one line
 pub record RefusedOver (J : Judges) (T : List ℕ) (R : Round) (b : List ℕ) (k : ℕ) : Type 0 where
-  pub draw : draw_outcome J T R b ≡ refused k
+  pub draw : draw_outcome J T R b ≡ Err k
   pub answer : (A : Judgement) → JudgementOf J T R b A → A ≡ refused_board k
   pub text : (s : List ℕ) → Met (file_checks T s) → round_in s ≡ R → draw_text J T s b ≡ refused_line k
 

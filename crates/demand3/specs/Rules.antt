@@ -1,9 +1,8 @@
 -- What is judged in the same round under the other rule. Before the verdicts a board is refused by the same number; and nothing can refuse
 -- a dealing or a share that is accepted under the one rule but the equations that have challenges in them, by 9 or 10.
-use Rattle.std.specs.Prelude.{◌≡◌, Bool, List, [], ◌∷◌, ℕ, eqb}
+use Rattle.std.specs.Prelude.{◌≡◌, Bool, List, [], ◌∷◌, ℕ, eqb, Ok}
 use Rattle.words.specs.Lists.{all}
-use Rattle.words.specs.Numbers.{proof_fails}
-use Rattle.words.specs.Checks.{◌unless◌, value, outcome}
+use Rattle.words.specs.Checks.{◌unless◌, outcome}
 use Rattle.words.specs.Bytes.{record_in}
 use Rattle.group.specs.declared.Element.{Element}
 use Rattle.sharing.specs.Setting.{ProperSetting, in_round, members}
@@ -15,6 +14,7 @@ use Rattle.dealing.specs.Dealing.{recomputed, equation_checks, judge_dealing_in}
 use Rattle.share.specs.Share.{share_recomputed, judge_share_in}
 use Rattle.share.specs.declared.ShareForm.{ShareForm}
 use Rattle.board.specs.Board.{board_checks, lines_checks}
+use Rattle.words.specs.declared.refusal.Refusal.TheVariants.{ProofFails}
 
 -- the same setting under a rule
 abbrev pub under_rule : Bool → Setting → Setting
@@ -25,16 +25,16 @@ pub record UnderRule (S : Setting) (whole : Bool) : Type 0 where
   pub lines : (d : ℕ) (b : List ℕ) → lines_checks (under_rule whole S) d b ≡ lines_checks S d b
   pub board : (b : List ℕ) → board_checks (under_rule whole S) b ≡ board_checks S b
   -- a dealing: 9 if the judge's own check polynomial does not pass now, then 10 if a challenge is not the recomputed one
-  pub dealing : (d : ℕ) (ys b : List ℕ) → judge_dealing_in S d ys b ≡ value tt
+  pub dealing : (d : ℕ) (ys b : List ℕ) → judge_dealing_in S d ys b ≡ Ok tt
       → judge_dealing_in (under_rule whole S) d ys b ≡ outcome (equation_checks (under_rule whole S) d ys (v_in b) (Y_in b) (r_in b) (c_in b)) tt
   -- a dealing that a polynomial of degree below t carries: 10 alone
-  pub carried : (d : ℕ) (ys b f : List ℕ) → Carries S f (vs_in S.n b) → judge_dealing_in S d ys b ≡ value tt
+  pub carried : (d : ℕ) (ys b f : List ℕ) → Carries S f (vs_in S.n b) → judge_dealing_in S d ys b ≡ Ok tt
       → judge_dealing_in (under_rule whole S) d ys b
-      ≡ outcome (proof_fails unless all (λ i. eqb (c_in b i) (recomputed (under_rule whole S) d ys (v_in b) (Y_in b) (r_in b) (c_in b))) (members S.n) ∷ []) tt
+      ≡ outcome (ProofFails unless all (λ i. eqb (c_in b i) (recomputed (under_rule whole S) d ys (v_in b) (Y_in b) (r_in b) (c_in b))) (members S.n) ∷ []) tt
   -- a share in any form: 10 alone, and the same Z
-  pub share : (F : ShareForm) (i y Y : ℕ) (b : List ℕ) (Z : Element) → judge_share_in S F i y Y b ≡ value Z
+  pub share : (F : ShareForm) (i y Y : ℕ) (b : List ℕ) (Z : Element) → judge_share_in S F i y Y b ≡ Ok Z
       → judge_share_in (under_rule whole S) F i y Y b
-      ≡ outcome (proof_fails unless eqb (share_c (record_in b)) (share_recomputed (under_rule whole S) F i y Y (record_in b)) ∷ []) Z
+      ≡ outcome (ProofFails unless eqb (share_c (record_in b)) (share_recomputed (under_rule whole S) F i y Y (record_in b)) ∷ []) Z
 
 abbrev pub UnderOtherRule : Type 0
 UnderOtherRule = (S : Setting) → ProperSetting S → (whole : Bool) → UnderRule S whole

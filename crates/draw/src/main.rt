@@ -2,7 +2,7 @@
 #![tactic(auto)]
 
 use files::read_or_empty;
-use std::io::{self, Write};
+use std::io::{Write, self};
 
 // Each space has one byte more than the longest file that is not refused for its length.
 fn main(rt: HostRuntime) {

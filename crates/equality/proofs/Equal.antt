@@ -4,7 +4,6 @@ use mathlib.Core.Bool.{true}
 use mathlib.Core.List.{List, [], ◌∷◌}
 use Prim.Native.Nat.{ℕ, ◌<◌}
 use native.Mathlib.Omega.{arith}
-use Rattle.words.specs.Checks.{value}
 use Rattle.words.proofs.Tests.{equal-true, true-equal, all_true, true-all}
 use Rattle.words.proofs.Checks.{value-exactly}
 use Rattle.field.specs.Residue.{add, mul, neg, sub}
@@ -18,6 +17,7 @@ use Rattle.group.proofs.Answers.{met-sound, in-group-exactly}
 use Rattle.equality.specs.Equality.{announced, response, equality_checks, equality_in, equality_outcome}
 use Rattle.equality.specs.Claims.{Holds, EqualityExactly, EqualityComplete, EqualityByNumber, proof_of}
 use Rattle.equality.specs.declared.Equality.{Equality}
+use Rattle.std.specs.Prelude.{Ok}
 
 -- a difference and what was taken away
 back : (q w m : ℕ) → 0 < q → add q (sub q w m) m ≡ add q w 0
@@ -50,7 +50,7 @@ module _ (G : Group) (E : Equality) where
   abbrev exponents : List ℕ
   exponents = E.c.0 ∷ E.r.0 ∷ []
 
-  accepted-holds : equality_in G E ≡ value tt → Holds G E
+  accepted-holds : equality_in G E ≡ Ok tt → Holds G E
   unfolding equality_in
   accepted-holds e =
       let m = (value-exactly Unit (equality_checks G E) tt).0 e in
@@ -64,7 +64,7 @@ module _ (G : Group) (E : Equality) where
         second = s.1;
       }
 
-  holds-accepted : Holds G E → equality_in G E ≡ value tt
+  holds-accepted : Holds G E → equality_in G E ≡ Ok tt
   unfolding equality_in
   holds-accepted H =
       let six = true-all (is_element G) elements H.elements in

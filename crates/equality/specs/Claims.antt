@@ -1,8 +1,8 @@
 -- What is claimed of one proof of equal logarithms, in every group: it is accepted exactly if both equations hold, and in every proper
 -- group a written one is accepted. EqualityByNumber reads both off for the group of a number.
-use Rattle.std.specs.Prelude.{◌≡◌, true, List, [], ◌∷◌, ◌↔◌, ℕ, ◌<◌}
+use Rattle.std.specs.Prelude.{◌≡◌, true, List, [], ◌∷◌, ◌↔◌, ℕ, ◌<◌, Ok}
 use Rattle.words.specs.Lists.{All}
-use Rattle.words.specs.Checks.{value, Met}
+use Rattle.words.specs.Checks.{Met}
 use Rattle.group.specs.Power.{pow}
 use Rattle.group.specs.Table.{groups_of, group_of, group_checks}
 use Rattle.group.specs.Element.{is_element, Proper}
@@ -20,7 +20,7 @@ pub record Holds (G : Group) (E : Equality) : Type 0 where
 
 -- a proof is accepted exactly if it holds
 abbrev pub EqualityExactly : Type 0
-EqualityExactly = (G : Group) (E : Equality) → (equality_in G E ≡ value tt) ↔ Holds G E
+EqualityExactly = (G : Group) (E : Equality) → (equality_in G E ≡ Ok tt) ↔ Holds G E
 
 -- the proof that the exponent e and the nonce w give under the challenge c
 abbrev pub proof_of : Group → ℕ → ℕ → ℕ → ℕ → ℕ → Equality
@@ -40,11 +40,11 @@ proof_of G b1 b2 e w c =
 abbrev pub EqualityComplete : Type 0
 EqualityComplete =
     (G : Group) → Proper G → (b1 b2 e w c : ℕ) → is_element G b1 ≡ true → is_element G b2 ≡ true → c < G.q
-    → equality_in G (proof_of G b1 b2 e w c) ≡ value tt
+    → equality_in G (proof_of G b1 b2 e w c) ≡ Ok tt
 
 -- a proof is accepted for a table and a number exactly if neither is refused and the group of the number, which is proper, accepts the proof
 abbrev pub EqualityByNumber : Type 0
 EqualityByNumber =
     (T : List ℕ) (k : ℕ) (E : Equality)
-    → (equality_outcome T k E ≡ value tt)
-    ↔ (Met (group_checks T k) × Proper (group_of (groups_of T) k) × (equality_in (group_of (groups_of T) k) E ≡ value tt))
+    → (equality_outcome T k E ≡ Ok tt)
+    ↔ (Met (group_checks T k) × Proper (group_of (groups_of T) k) × (equality_in (group_of (groups_of T) k) E ≡ Ok tt))

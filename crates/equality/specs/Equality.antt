@@ -1,7 +1,6 @@
 -- Proofs that two elements are two bases to one exponent.
 use Rattle.std.specs.Prelude.{Bool, ◌&&◌, List, [], ◌∷◌, ℕ, eqb}
 use Rattle.words.specs.Lists.{all}
-use Rattle.words.specs.Numbers.{no_element, no_exponent, proof_fails}
 use Rattle.words.specs.Checks.{Check, ◌unless◌, Outcome, outcome}
 use Rattle.field.specs.Residue.{mul, sub}
 use Rattle.group.specs.Power.{pow}
@@ -9,6 +8,7 @@ use Rattle.group.specs.Table.{in_group}
 use Rattle.group.specs.Element.{is_element, is_exponent}
 use Rattle.group.specs.declared.Group.{Group}
 use Rattle.equality.specs.declared.Equality.{Equality}
+use Rattle.words.specs.declared.refusal.Refusal.TheVariants.{NoElement, NoExponent, ProofFails}
 
 -- the announcement that the challenge c and the response r give for the element x to the base b: b^r times x^c
 unfoldable pub announced : Group → ℕ → ℕ → ℕ → ℕ → ℕ
@@ -28,9 +28,9 @@ equations_hold G E =
 -- in a group
 abbrev pub equality_checks : Group → Equality → List Check
 equality_checks G E =
-    no_element unless all (is_element G) (E.b1.0 ∷ E.x1.0 ∷ E.b2.0 ∷ E.x2.0 ∷ E.a1.0 ∷ E.a2.0 ∷ [])
-    ∷ no_exponent unless all (is_exponent G) (E.c.0 ∷ E.r.0 ∷ [])
-    ∷ proof_fails unless equations_hold G E
+    NoElement unless all (is_element G) (E.b1.0 ∷ E.x1.0 ∷ E.b2.0 ∷ E.x2.0 ∷ E.a1.0 ∷ E.a2.0 ∷ [])
+    ∷ NoExponent unless all (is_exponent G) (E.c.0 ∷ E.r.0 ∷ [])
+    ∷ ProofFails unless equations_hold G E
     ∷ []
 
 unfoldable pub equality_in : Group → Equality → Outcome (Unit {0})

@@ -1,11 +1,10 @@
 // Proofs that two elements are two bases to one exponent: their announcements and responses, and the operation that judges one.
 ghost use Rattle.std.specs.Prelude.{◌≡◌, ◌<◌};
-ghost use Rattle.words.specs.Checks.{check_outcome_of};
 ghost use Rattle.equality.specs.Equality.{announced, response, equations_hold, equality_in, equality_outcome};
 
 use crate::Equality;
-use group::{Element, Exponent, Group, GroupAnswer, all_elements, all_exponents, group_of};
-use words::{CheckAnswer, passed_if, refusal};
+use group::{Element, Exponent, Group, all_elements, all_exponents, group_of};
+use words::{Refusal, passed_if};
 
 // The announcement that the challenge c and the response r give for the element x to the base b.
 // Internal: callers ensure that p is above 1.
@@ -36,26 +35,24 @@ fn equations_hold(gr: Group, e: Equality) -> bool
 }
 
 // One proof with lent figures in a group: 6, 7 and 10. Internal: callers ensure that p is above 1.
-pub fn equality_in(gr: Group, e: Equality) -> CheckAnswer
+pub fn equality_in(gr: Group, e: Equality) -> Result<(), Refusal>
     requires { 1 < gr.p }
-    ensures { check_outcome_of result ≡ equality_in gr e }
+    ensures { result ≡ equality_in gr e }
 {
     if !all_elements(gr, &[e.b1.0, e.x1.0, e.b2.0, e.x2.0, e.a1.0, e.a2.0]) {
-        return CheckAnswer::Refused(refusal::NO_ELEMENT);
+        return Err(Refusal::NoElement);
     }
     if !all_exponents(gr, &[e.c.0, e.r.0]) {
-        return CheckAnswer::Refused(refusal::NO_EXPONENT);
+        return Err(Refusal::NoExponent);
     }
-    passed_if(equations_hold(gr, e), refusal::PROOF_FAILS)
+    passed_if(equations_hold(gr, e), Refusal::ProofFails)
 }
 
 // One proof with lent figures. Refused: 3, 4, 20, 21 and 1 as group_of; 6 a figure that is no element; 7 c or r not below q; 10 an equation
 // for a1 or a2 fails.
-pub fn equality_check(table: &[u8], number: u32, e: Equality) -> CheckAnswer
-    ensures { check_outcome_of result ≡ equality_outcome table.now number e }
+pub fn equality_check(table: &[u8], number: u32, e: Equality) -> Result<(), Refusal>
+    ensures { result ≡ equality_outcome table.now number e }
 {
-    match group_of(table, number) {
-        GroupAnswer::Refused(k) => CheckAnswer::Refused(k),
-        GroupAnswer::Value(gr) => equality_in(gr, e),
-    }
+    let gr = group_of(table, number)?;
+    equality_in(gr, e)
 }

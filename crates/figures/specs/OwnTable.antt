@@ -1,11 +1,12 @@
 -- A table of one's own in figures: one group with p = 31 and q = 5, where p - 1 is not 2q; and tables with one figure of it changed.
-use Rattle.std.specs.Prelude.{◌≡◌, List, ℕ}
-use Rattle.words.specs.Checks.{value, refused, refusal, Met}
+use Rattle.std.specs.Prelude.{◌≡◌, List, ℕ, Ok, Err}
+use Rattle.words.specs.Checks.{refusal, Met}
 use Rattle.words.specs.Bytes.{record_bytes}
 use Rattle.group.specs.Power.{pow}
 use Rattle.group.specs.Table.{group_layout, table_checks}
 use Rattle.group.specs.Answer.{power_outcome}
 use Rattle.figures.specs.ByHand.{element, exponent}
+use Rattle.words.specs.declared.refusal.Refusal.TheVariants.{UnknownGroup, NoElement}
 
 -- the table of one group
 abbrev pub table_of : ℕ → ℕ → ℕ → ℕ → List ℕ
@@ -17,11 +18,11 @@ own_table = table_of 31 5 2 16
 pub record OwnTable : Type 0 where
   -- it is accepted; 2 to the exponent 4 is 16 in its group 1, and it has no group 2
   pub accepted : Met (table_checks own_table)
-  pub power : power_outcome own_table 1 (element 2) (exponent 4) ≡ value (element 16)
-  pub no_second : power_outcome own_table 2 (element 2) (exponent 4) ≡ refused 1
+  pub power : power_outcome own_table 1 (element 2) (exponent 4) ≡ Ok (element 16)
+  pub no_second : power_outcome own_table 2 (element 2) (exponent 4) ≡ Err UnknownGroup
   -- 5 is the square of 6, and no element: as a base it is refused by 6, as g by 21
   pub square-5 : pow 31 6 2 ≡ 5
-  pub base-5 : (e : ℕ) → power_outcome own_table 1 (element 5) (exponent e) ≡ refused 6
+  pub base-5 : (e : ℕ) → power_outcome own_table 1 (element 5) (exponent e) ≡ Err NoElement
   pub g-5 : refusal (table_checks (table_of 31 5 5 16)) ≡ 21
   -- h may be neither g nor 1
   pub h-2 : refusal (table_checks (table_of 31 5 2 2)) ≡ 21

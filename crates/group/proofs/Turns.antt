@@ -6,7 +6,7 @@ use mathlib.Core.List.{List, [], ◌∷◌}
 use Prim.Native.Nat.{ℕ, suc, ◌+◌, ◌-◌, ◌≤◌, ◌<◌}
 use native.Mathlib.Omega.{arith}
 use Rattle.words.specs.Lists.{up_from}
-use Rattle.words.specs.Checks.{◌unless◌, refusal, Met, Numbered}
+use Rattle.words.specs.Checks.{◌unless◌, refusal, Met}
 use Rattle.words.specs.Bytes.{records_in, record_at}
 use Rattle.words.specs.declared.Record.{Record}
 use borrow.Author.Tests.{le-leb, lt-leb}

@@ -1,24 +1,18 @@
--- What the operation power answers, case by case, and what it is to answer.
+-- What the operation power is to answer.
 use Rattle.std.specs.Prelude.{List, [], ◌∷◌, ℕ}
-use Rattle.words.specs.Numbers.{no_element, no_exponent}
-use Rattle.words.specs.Checks.{Check, ◌unless◌, Outcome, value, refused, outcome}
+use Rattle.words.specs.Checks.{Check, ◌unless◌, Outcome, outcome}
 use Rattle.group.specs.Power.{pow}
 use Rattle.group.specs.Table.{in_group}
 use Rattle.group.specs.Element.{is_element, is_exponent}
 use Rattle.group.specs.declared.Group.{Group}
 use Rattle.group.specs.declared.Element.{Element}
 use Rattle.group.specs.declared.Exponent.{Exponent}
-use Rattle.group.specs.declared.ElementAnswer.{ElementAnswer}
-use Rattle.group.specs.declared.ElementAnswer.TheVariants.{Value, Refused}
-
-abbrev pub element_outcome_of : ElementAnswer → Outcome Element
-element_outcome_of (Value v) = value v
-element_outcome_of (Refused k) = refused k
+use Rattle.words.specs.declared.refusal.Refusal.TheVariants.{NoElement, NoExponent}
 
 -- ---- a power
 -- in a group
 abbrev pub power_checks : Group → Element → Exponent → List Check
-power_checks G b e = no_element unless is_element G b.0 ∷ no_exponent unless is_exponent G e.0 ∷ []
+power_checks G b e = NoElement unless is_element G b.0 ∷ NoExponent unless is_exponent G e.0 ∷ []
 
 abbrev pub power_value : Group → Element → Exponent → Element
 power_value G b e = record { 0 = pow G.p b.0 e.0 }

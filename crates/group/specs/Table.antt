@@ -2,15 +2,13 @@
 -- does by a table and a number.
 use Rattle.std.specs.Prelude.{Bool, not, ◌&&◌, List, [], ◌∷◌, ◌++◌, ℕ, suc, ◌-◌, ◌%◌, ◌^◌, leb, ltb, eqb, length, get_or}
 use Rattle.words.specs.Lists.{map, all, up_from}
-use Rattle.words.specs.Numbers.{unknown_group, bad_length, bad_form, not_prime, no_generator}
-use Rattle.words.specs.Checks.{Check, ◌unless◌, Outcome, value, refused, outcome, if_met}
+use Rattle.words.specs.Checks.{Check, ◌unless◌, Outcome, outcome, if_met}
 use Rattle.words.specs.Bytes.{records_in, record_at, agrees}
 use Rattle.words.specs.declared.Record.{Record}
 use Rattle.field.specs.Prime.{is_prime}
 use Rattle.group.specs.Element.{is_generator}
 use Rattle.group.specs.declared.Group.{Group}
-use Rattle.group.specs.declared.GroupAnswer.{GroupAnswer}
-use Rattle.group.specs.declared.GroupAnswer.TheVariants.{Value, Refused}
+use Rattle.words.specs.declared.refusal.Refusal.TheVariants.{UnknownGroup, BadLength, BadForm, NotPrime, NoGenerator}
 
 -- a group by its modulus, its order and its two generators
 abbrev pub group : ℕ → ℕ → ℕ → ℕ → Group
@@ -58,7 +56,7 @@ has_generators G = is_generator G G.g.0 && (is_generator G G.h.0 && not (eqb G.g
 -- group by group
 abbrev pub groups_checks : List Group → List Check
 groups_checks [] = []
-groups_checks (G ∷ Gs) = not_prime unless has_primes G ∷ no_generator unless has_generators G ∷ groups_checks Gs
+groups_checks (G ∷ Gs) = NotPrime unless has_primes G ∷ NoGenerator unless has_generators G ∷ groups_checks Gs
 
 -- the form of n records from the record i on, whose number is i + 1
 abbrev pub are_groups : List ℕ → ℕ → ℕ → Bool
@@ -67,8 +65,8 @@ are_groups T i n = all (λ j. is_group_record (suc j) (record_at T j)) (up_from 
 -- whole records, at most 8, numbered 1 upwards without gaps, and each of their groups
 unfoldable pub table_checks : List ℕ → List Check
 table_checks T =
-    bad_length unless (eqb (length T % 32) 0 && leb (records_in T) 8)
-    ∷ bad_form unless are_groups T 0 (records_in T)
+    BadLength unless (eqb (length T % 32) 0 && leb (records_in T) 8)
+    ∷ BadForm unless are_groups T 0 (records_in T)
     ∷ groups_checks (groups_from T 0 (records_in T))
 
 -- ---- the group of a number, from 1
@@ -79,17 +77,13 @@ is_group Gs k = leb 1 k && leb k (length Gs)
 unfoldable pub group_of : List Group → ℕ → Group
 group_of Gs k = get_or Gs (k - 1) (group 0 0 0 0)
 
-abbrev pub group_outcome_of : GroupAnswer → Outcome Group
-group_outcome_of (Value G) = value G
-group_outcome_of (Refused k) = refused k
-
 -- the group of a number among groups, or 1 where it has none
 abbrev pub looked_up : List Group → ℕ → Outcome Group
-looked_up Gs k = outcome (unknown_group unless is_group Gs k ∷ []) (group_of Gs k)
+looked_up Gs k = outcome (UnknownGroup unless is_group Gs k ∷ []) (group_of Gs k)
 
 -- ---- what an operation does by a table and a number: the table comes first, then 1, then the checks of the group
 unfoldable pub group_checks : List ℕ → ℕ → List Check
-group_checks T k = table_checks T ++ (unknown_group unless is_group (groups_of T) k ∷ [])
+group_checks T k = table_checks T ++ (UnknownGroup unless is_group (groups_of T) k ∷ [])
 
 abbrev pub group_outcome : List ℕ → ℕ → Outcome Group
 group_outcome T k = outcome (group_checks T k) (group_of (groups_of T) k)

@@ -1,41 +1,41 @@
 // Tables of groups: the judge of the bytes of groups.tab, and the group of a number.
 ghost use Rattle.std.specs.Prelude.{◌≡◌, ◌+◌, ◌*◌, ◌≤◌, length};
-ghost use Rattle.words.specs.Checks.{refusal};
+ghost use Rattle.words.specs.Checks.{outcome};
 ghost use Rattle.words.specs.Bytes.{records_in};
 ghost use Rattle.group.specs.Table.{built_in, is_group_record, group_at, groups_from, groups_of, has_primes, has_generators, groups_checks};
-ghost use Rattle.group.specs.Table.{are_groups, table_checks, group_outcome_of, looked_up, group_outcome};
+ghost use Rattle.group.specs.Table.{are_groups, table_checks, looked_up, group_outcome};
 
 use crate::membership::is_generator;
-use crate::{Element, Group, GroupAnswer};
+use crate::{Element, Group};
 use field::is_prime;
-use words::{Record, agrees, record_at, refusal};
+use words::{Record, Refusal, agrees, record_at};
 
 const GROUP: u32 = 7;
 
 // A built-in group.
-fn built_in(number: u32) -> GroupAnswer
-    ensures { group_outcome_of result ≡ looked_up built_in number }
+fn built_in(number: u32) -> Result<Group, Refusal>
+    ensures { result ≡ looked_up built_in number }
 {
     match number {
-        1 => GroupAnswer::Value(Group {
+        1 => Ok(Group {
             p: 23,
             q: 11,
             g: Element(4),
             h: Element(9),
         }),
-        2 => GroupAnswer::Value(Group {
+        2 => Ok(Group {
             p: 2039,
             q: 1019,
             g: Element(4),
             h: Element(9),
         }),
-        3 => GroupAnswer::Value(Group {
+        3 => Ok(Group {
             p: 4294967087,
             q: 2147483543,
             g: Element(4),
             h: Element(9),
         }),
-        _ => GroupAnswer::Refused(refusal::UNKNOWN_GROUP),
+        _ => Err(Refusal::UnknownGroup),
     }
 }
 
@@ -114,58 +114,55 @@ fn has_generators(gr: Group) -> bool
     gr.g.0 != gr.h.0
 }
 
-// What the groups are refused by, one after the other: 20 p or q; 21 g or h. 0 where they are not.
-fn groups_refusal(table: &[u8]) -> u32
-    ensures { result ≡ refusal (groups_checks (groups_from table.now 0 (records_in table.now))) }
+// What the groups are refused by, one after the other: 20 p or q; 21 g or h.
+fn check_groups(table: &[u8]) -> Result<(), Refusal>
+    ensures { result ≡ outcome (groups_checks (groups_from table.now 0 (records_in table.now))) tt }
 {
     let mut i = 0;
     while i < table.len() / 32 {
         let gr = group_at(table, i);
         if !has_primes(gr) {
-            return refusal::NOT_PRIME;
+            return Err(Refusal::NotPrime);
         }
         if !has_generators(gr) {
-            return refusal::NO_GENERATOR;
+            return Err(Refusal::NoGenerator);
         }
         i += 1;
     }
-    0
+    Ok(())
 }
 
 // What the bytes of a table are refused by: 3 not whole records, or more than 8; 4 a record of another form, or out of number; then group
-// by group 20 p or q, 21 g or h. 0 where they are not. No bytes are not refused: they stand for the built-in groups.
-pub fn table_refusal(table: &[u8]) -> u32
-    ensures { result ≡ refusal (table_checks table.now) }
+// by group 20 p or q, 21 g or h. No bytes are not refused: they stand for the built-in groups.
+pub fn check_table(table: &[u8]) -> Result<(), Refusal>
+    ensures { result ≡ outcome (table_checks table.now) tt }
 {
     if table.len() % 32 != 0 || table.len() / 32 > 8 {
-        return refusal::BAD_LENGTH;
+        return Err(Refusal::BadLength);
     }
     if !are_groups(table) {
-        return refusal::BAD_FORM;
+        return Err(Refusal::BadForm);
     }
-    groups_refusal(table)
+    check_groups(table)
 }
 
 // Looks a group up by its number. Refused: 1 no group of that number. Internal: callers have judged the table.
-pub fn group_in(table: &[u8], number: u32) -> GroupAnswer
-    ensures { group_outcome_of result ≡ looked_up (groups_of table.now) number }
+pub fn group_in(table: &[u8], number: u32) -> Result<Group, Refusal>
+    ensures { result ≡ looked_up (groups_of table.now) number }
 {
     if table.len() == 0 {
         return built_in(number);
     }
     if number < 1 || number as usize > table.len() / 32 {
-        return GroupAnswer::Refused(refusal::UNKNOWN_GROUP);
+        return Err(Refusal::UnknownGroup);
     }
-    GroupAnswer::Value(group_at(table, number as usize - 1))
+    Ok(group_at(table, number as usize - 1))
 }
 
-// Judges the table, and looks a group up by its number. Refused: 3, 4, 20 and 21 the table, as table_refusal; 1 no group of that number.
-pub fn group_of(table: &[u8], number: u32) -> GroupAnswer
-    ensures { group_outcome_of result ≡ group_outcome table.now number }
+// Judges the table, and looks a group up by its number. Refused: 3, 4, 20 and 21 the table, as check_table; 1 no group of that number.
+pub fn group_of(table: &[u8], number: u32) -> Result<Group, Refusal>
+    ensures { result ≡ group_outcome table.now number }
 {
-    let refused = table_refusal(table);
-    if refused != 0 {
-        return GroupAnswer::Refused(refused);
-    }
+    check_table(table)?;
     group_in(table, number)
 }

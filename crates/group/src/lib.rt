@@ -2,15 +2,15 @@
 #![tactic(auto)]
 
 ghost use Rattle.std.specs.Prelude.{◌≡◌};
-ghost use Rattle.group.specs.Answer.{element_outcome_of, power_in, power_outcome};
+ghost use Rattle.group.specs.Answer.{power_in, power_outcome};
 
 mod arithmetic;
 mod groups;
 mod membership;
 
-pub use groups::{group_in, group_of, table_refusal};
+pub use groups::{group_in, group_of, check_table};
 pub use membership::{all_elements, all_exponents, is_element, is_exponent, is_generator};
-use words::refusal;
+use words::Refusal;
 
 // A residue modulo q.
 #[derive(Clone, Copy)]
@@ -29,37 +29,23 @@ pub struct Group {
     pub h: Element,
 }
 
-#[derive(Clone, Copy)]
-pub enum GroupAnswer {
-    Value(Group),
-    Refused(u32),
-}
-
-#[derive(Clone, Copy)]
-pub enum ElementAnswer {
-    Value(Element),
-    Refused(u32),
-}
-
 // An element to the power of an exponent in a group: 6 and 7.
-pub fn power_in(gr: Group, base: Element, exponent: Exponent) -> ElementAnswer
-    ensures { element_outcome_of result ≡ power_in gr base exponent }
+pub fn power_in(gr: Group, base: Element, exponent: Exponent) -> Result<Element, Refusal>
+    ensures { result ≡ power_in gr base exponent }
 {
     if !is_element(gr, base) {
-        return ElementAnswer::Refused(refusal::NO_ELEMENT);
+        return Err(Refusal::NoElement);
     }
     if !is_exponent(gr, exponent) {
-        return ElementAnswer::Refused(refusal::NO_EXPONENT);
+        return Err(Refusal::NoExponent);
     }
-    ElementAnswer::Value(base.power(gr, exponent))
+    Ok(base.power(gr, exponent))
 }
 
 // An element to the power of an exponent. Refused: 3, 4, 20, 21 and 1 as group_of; 6 the base is no element; 7 the exponent is not below q.
-pub fn power(table: &[u8], number: u32, base: Element, exponent: Exponent) -> ElementAnswer
-    ensures { element_outcome_of result ≡ power_outcome table.now number base exponent }
+pub fn power(table: &[u8], number: u32, base: Element, exponent: Exponent) -> Result<Element, Refusal>
+    ensures { result ≡ power_outcome table.now number base exponent }
 {
-    match group_of(table, number) {
-        GroupAnswer::Refused(k) => ElementAnswer::Refused(k),
-        GroupAnswer::Value(gr) => power_in(gr, base, exponent),
-    }
+    let gr = group_of(table, number)?;
+    power_in(gr, base, exponent)
 }

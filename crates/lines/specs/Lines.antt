@@ -1,16 +1,16 @@
 -- A dealing's lines: the figures of the members' records, and the form of these records.
 use Rattle.std.specs.Prelude.{Bool, ◌&&◌, List, [], ◌∷◌, ℕ, eqb}
 use Rattle.words.specs.Lists.{map, all}
-use Rattle.words.specs.Numbers.{bad_form, no_member, other_round}
 use Rattle.words.specs.Checks.{Check, ◌unless◌}
 use Rattle.words.specs.declared.Record.{Record}
 use Rattle.sharing.specs.Setting.{is_member, members}
 use Rattle.sharing.specs.declared.Setting.{Setting}
 use Rattle.records.specs.Layout.{is_line_record, is_of_round, dealer_of, member_of, v_of, Y_of, r_of, c_of, member_record}
+use Rattle.words.specs.declared.refusal.Refusal.TheVariants.{BadForm, NoMember, OtherRound}
 
 -- the dealer d is a member: the first stage wherever a dealing is written, read or judged
 unfoldable pub address_checks : Setting → ℕ → List Check
-address_checks S d = no_member unless is_member S.n d ∷ []
+address_checks S d = NoMember unless is_member S.n d ∷ []
 
 -- ---- the figures of member i in the lines b
 unfoldable pub v_in : List ℕ → ℕ → ℕ
@@ -45,6 +45,6 @@ is_line_of_round round b i = is_of_round round (member_record b i)
 -- all lines by their form, and then all by their round
 unfoldable pub line_checks : Setting → ℕ → List ℕ → List Check
 line_checks S d b =
-    bad_form unless all (is_line_of d b) (members S.n)
-    ∷ other_round unless all (is_line_of_round S.round b) (members S.n)
+    BadForm unless all (is_line_of d b) (members S.n)
+    ∷ OtherRound unless all (is_line_of_round S.round b) (members S.n)
     ∷ []

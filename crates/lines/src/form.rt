@@ -1,14 +1,14 @@
 // The form of a dealing's lines: each of its kind, of the dealer and of the member of its place, and then each of the round.
 ghost use Rattle.std.specs.Prelude.{◌≡◌, ◌*◌, length};
 ghost use Rattle.words.specs.Lists.{all};
-ghost use Rattle.words.specs.Checks.{refusal};
+ghost use Rattle.words.specs.Checks.{outcome};
 ghost use Rattle.words.specs.Bytes.{record_in};
 ghost use Rattle.sharing.specs.Setting.{members};
 ghost use Rattle.lines.specs.Lines.{is_line_for, is_line_of, is_line_of_round, line_checks};
 
 use records::{is_line_record, is_of_round};
 use sharing::Setting;
-use words::{read_record, record_at, refusal};
+use words::{Refusal, read_record, record_at};
 
 // Whether a record is a line of the dealer d for member i. Internal: callers ensure that the bytes are one record.
 fn is_line_for(d: u32, i: u32, line: &[u8]) -> bool
@@ -57,17 +57,17 @@ fn all_of_round(round: u32, lines: &[u8], n: u32) -> bool
     true
 }
 
-// The number by which the lines of the dealer d are refused, 0 where they are not: 4 a record that is no line of d for the member of its
+// The number by which the lines of the dealer d are refused: 4 a record that is no line of d for the member of its
 // place; 17 a line of another round. Internal: callers ensure that the bytes are n records.
-pub fn lines_refusal(s: Setting, d: u32, lines: &[u8]) -> u32
+pub fn check_lines(s: Setting, d: u32, lines: &[u8]) -> Result<(), Refusal>
     requires { length lines.now ≡ 32 * s.n }
-    ensures { result ≡ refusal (line_checks s d lines.now) }
+    ensures { result ≡ outcome (line_checks s d lines.now) tt }
 {
     if !all_lines(d, lines, s.n) {
-        return refusal::BAD_FORM;
+        return Err(Refusal::BadForm);
     }
     if !all_of_round(s.round, lines, s.n) {
-        return refusal::OTHER_ROUND;
+        return Err(Refusal::OtherRound);
     }
-    0
+    Ok(())
 }

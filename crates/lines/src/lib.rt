@@ -5,7 +5,7 @@ mod figures;
 mod form;
 
 pub use figures::{put_lines, read_lines};
-pub use form::lines_refusal;
+pub use form::check_lines;
 
 // The figures of a dealing's lines: v, Y, r and c of each member, and 0 behind them.
 #[derive(Clone, Copy)]

@@ -7,7 +7,7 @@ use native.Mathlib.Omega.{arith}
 use borrow.Author.Tests.{leb-true, eqb-true}
 use lib.Dec.{leb, eqb}
 use lib.ListN.{length}
-use Rattle.words.specs.Checks.{Check, value, refused, Met}
+use Rattle.words.specs.Checks.{Check, Met}
 use Rattle.words.proofs.Tests.{and-true}
 use Rattle.words.proofs.Stages.{met-both}
 use Rattle.words.proofs.Checks.{if-met, if-unmet, value-exactly, refused-exactly}
@@ -16,6 +16,7 @@ use Rattle.group.specs.declared.Element.{Element}
 use Rattle.plots.specs.Picked.{is_radius, picked, plot_checks, pick_checks, pick_outcome, lent_plots}
 use Rattle.plots.specs.Claims.{PickLent, SamePlots}
 use Rattle.plots.proofs.Picked.{picked-exactly}
+use Rattle.std.specs.Prelude.{Ok, Err}
 
 -- ---- what the checks settle
 pub record Pickable (radius N k room : ℕ) : Type 0 where
@@ -48,7 +49,7 @@ module _ (T : List ℕ) (number : ℕ) (v : Element) (radius N k : ℕ) (out : L
   abbrev own : List Check
   own = pick_checks (group_of (groups_of T) number) v radius N k (length out)
 
-  passed-lent : pick_outcome T number v radius N k (length out) ≡ value tt
+  passed-lent : pick_outcome T number v radius N k (length out) ≡ Ok tt
       → (k ≤ N) × (lent_plots T number v radius N k out ≡ picked v.0 radius N k)
   unfolding pick_outcome lent_plots in_group in_group_else
   passed-lent e =
@@ -56,7 +57,7 @@ module _ (T : List ℕ) (number : ℕ) (v : Element) (radius N k : ℕ) (out : L
       let w = (met-both (group_checks T number) own m).1 in
       ((pickable radius N k (length out) w.1).k-most, if-met (picked v.0 radius N k) out (group_checks T number ++ own) m)
 
-  refused-lent : (i : ℕ) → pick_outcome T number v radius N k (length out) ≡ refused i → lent_plots T number v radius N k out ≡ out
+  refused-lent : (i : ℕ) → pick_outcome T number v radius N k (length out) ≡ Err i → lent_plots T number v radius N k out ≡ out
   unfolding pick_outcome lent_plots in_group in_group_else
   refused-lent i e =
       let cs = group_checks T number ++ own in

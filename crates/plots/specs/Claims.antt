@@ -1,8 +1,7 @@
 -- What is claimed of picked lists: they are what the request asks for, nothing else is, and every office has the same.
-use Rattle.std.specs.Prelude.{◌≡◌, Bool, true, false, List, ◌↔◌, ℕ, ◌≤◌, ◌<◌, eqb, ltb, length, take}
+use Rattle.std.specs.Prelude.{◌≡◌, Bool, true, false, List, ◌↔◌, ℕ, ◌≤◌, ◌<◌, eqb, ltb, length, take, Ok, Err}
 use Rattle.words.specs.Choice.{pick}
 use Rattle.words.specs.Lists.{All, Pairwise, Distinct, absent, up_from}
-use Rattle.words.specs.Checks.{value, refused}
 use Rattle.group.specs.declared.Element.{Element}
 use Rattle.plots.specs.Rank.{rank, comes_before}
 use Rattle.plots.specs.Picked.{sorted, picked, pick_outcome, lent_plots}
@@ -42,9 +41,9 @@ PickedStart = (v radius N k m : ℕ) → k ≤ m → take k (picked v radius N m
 -- ---- the operation
 -- where it passes, the lent list is the picked one, and such a list; where it refuses, the list is as it was
 pub record Lent (T : List ℕ) (number : ℕ) (v : Element) (radius N k : ℕ) (out : List ℕ) : Type 0 where
-  pub passed : pick_outcome T number v radius N k (length out) ≡ value tt
+  pub passed : pick_outcome T number v radius N k (length out) ≡ Ok tt
       → (lent_plots T number v radius N k out ≡ picked v.0 radius N k) × IsPick v.0 radius N k (lent_plots T number v radius N k out)
-  pub kept : (i : ℕ) → pick_outcome T number v radius N k (length out) ≡ refused i → lent_plots T number v radius N k out ≡ out
+  pub kept : (i : ℕ) → pick_outcome T number v radius N k (length out) ≡ Err i → lent_plots T number v radius N k out ≡ out
 
 abbrev pub PickLent : Type 0
 PickLent = (T : List ℕ) (number : ℕ) (v : Element) (radius N k : ℕ) (out : List ℕ) → Lent T number v radius N k out
@@ -53,7 +52,7 @@ PickLent = (T : List ℕ) (number : ℕ) (v : Element) (radius N k : ℕ) (out :
 abbrev pub SamePlots : Type 0
 SamePlots =
     (T T' : List ℕ) (number number' : ℕ) (v : Element) (radius N k : ℕ) (out out' : List ℕ)
-    → pick_outcome T number v radius N k (length out) ≡ value tt → pick_outcome T' number' v radius N k (length out') ≡ value tt
+    → pick_outcome T number v radius N k (length out) ≡ Ok tt → pick_outcome T' number' v radius N k (length out') ≡ Ok tt
     → lent_plots T number v radius N k out ≡ lent_plots T' number' v radius N k out'
 
 -- ---- plots of equal rank

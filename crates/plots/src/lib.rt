@@ -2,17 +2,17 @@
 #![tactic(auto)]
 
 ghost use Rattle.std.specs.Prelude.{◌≡◌, ◌≤◌, length};
-ghost use Rattle.words.specs.Checks.{refusal, check_outcome_of};
+ghost use Rattle.words.specs.Checks.{outcome};
 ghost use Rattle.plots.specs.Sorting.{keys_of, sorted_keys, spare_after};
 ghost use Rattle.plots.specs.Picked.{is_radius, is_count, picked, pick_checks, pick_in, pick_outcome, lent_plots_in, lent_plots};
 
 mod rank;
 mod sort;
 
-use group::{Element, Group, GroupAnswer, group_of, is_element};
+use group::{Element, Group, group_of, is_element};
 use rank::{put_keys, put_plots};
 use sort::sort;
-use words::{CheckAnswer, refusal};
+use words::Refusal;
 
 // Whether plots of this radius are mapped or cruised.
 fn is_radius(radius: u32) -> bool
@@ -37,23 +37,23 @@ fn is_count(total: u32, count: u32) -> bool
     count <= total
 }
 
-// The first number refused of 6, 15, 16 and 3, 0 where none is.
-fn pick_refusal(gr: Group, value: Element, radius: u32, total: u32, count: u32, room: usize) -> u32
-    ensures { result ≡ refusal (pick_checks gr value radius total count room) }
+// The first number refused of 6, 15, 16 and 3,.
+fn check_pick(gr: Group, value: Element, radius: u32, total: u32, count: u32, room: usize) -> Result<(), Refusal>
+    ensures { result ≡ outcome (pick_checks gr value radius total count room) tt }
 {
     if !is_element(gr, value) {
-        return refusal::NO_ELEMENT;
+        return Err(Refusal::NoElement);
     }
     if !is_radius(radius) {
-        return refusal::BAD_RADIUS;
+        return Err(Refusal::BadRadius);
     }
     if !is_count(total, count) {
-        return refusal::BAD_COUNT;
+        return Err(Refusal::BadCount);
     }
     if room != count as usize {
-        return refusal::BAD_LENGTH;
+        return Err(Refusal::BadLength);
     }
-    0
+    Ok(())
 }
 
 // Writes the first plots, as many as there are places, by means of two lists with a place for every plot: the keys, which are sorted,
@@ -89,16 +89,13 @@ pub fn pick_plots_in(
     total: u32,
     count: u32,
     out: &mut [u32],
-) -> CheckAnswer
-    ensures result_value { check_outcome_of result ≡ pick_in gr value radius total count (length out.old) }
+) -> Result<(), Refusal>
+    ensures result_value { result ≡ pick_in gr value radius total count (length out.old) }
     ensures out_after { out.new ≡ lent_plots_in gr value radius total count out.old }
 {
-    let refused = pick_refusal(gr, value, radius, total, count, out.len());
-    if refused != 0 {
-        return CheckAnswer::Refused(refused);
-    }
+    check_pick(gr, value, radius, total, count, out.len())?;
     put_picked(value, radius as u8, total as usize, out);
-    CheckAnswer::Passed
+    Ok(())
 }
 
 // Picks plots by a draw value: so many (k) of the plots 1 to `total` (N) whose radius is given in metres. Their numbers are written into
@@ -112,13 +109,11 @@ pub fn pick_plots(
     total: u32,
     count: u32,
     out: &mut [u32],
-) -> CheckAnswer
-    ensures result_value { check_outcome_of result
+) -> Result<(), Refusal>
+    ensures result_value { result
         ≡ pick_outcome table.now number value radius total count (length out.old) }
     ensures out_after { out.new ≡ lent_plots table.now number value radius total count out.old }
 {
-    match group_of(table, number) {
-        GroupAnswer::Refused(refused) => CheckAnswer::Refused(refused),
-        GroupAnswer::Value(gr) => pick_plots_in(gr, value, radius, total, count, out),
-    }
+    let gr = group_of(table, number)?;
+    pick_plots_in(gr, value, radius, total, count, out)
 }

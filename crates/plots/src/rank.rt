@@ -5,7 +5,7 @@ ghost use Rattle.plots.specs.Rank.{rank};
 ghost use Rattle.plots.specs.Sorting.{sort_key, keys_of, plot_of};
 
 use group::Element;
-use sha256::{DigestAnswer, digest};
+use sha256::digest;
 use words::put_word;
 
 const PLOT_TAG: u8 = 0x4C;
@@ -19,7 +19,7 @@ fn rank(value: Element, radius: u8, plot: u32) -> u32
     m[1] = radius;
     put_word(&mut m, 2, value.0);
     put_word(&mut m, 6, plot);
-    let DigestAnswer::Value(d) = digest(&m) else {
+    let Ok(d) = digest(&m) else {
         return 0;
     };
     d.w0

@@ -1,11 +1,11 @@
 // Keys and secret keys, and the stage of the members' keys.
 ghost use Rattle.std.specs.Prelude.{◌≡◌, ◌+◌, ◌<◌};
 ghost use Rattle.words.specs.Lists.{all};
-ghost use Rattle.words.specs.Checks.{refusal};
+ghost use Rattle.words.specs.Checks.{outcome};
 ghost use Rattle.records.specs.Keys.{is_key, is_secret_key, key_checks};
 
 use group::{Element, Exponent, Group, is_generator};
-use words::{none_twice, refusal};
+use words::{Refusal, none_twice};
 
 // A key: an element that is not 1.
 pub fn is_key(gr: Group, y: Element) -> bool
@@ -27,17 +27,17 @@ pub fn all_keys(gr: Group, ys: &[u32]) -> bool
     true
 }
 
-// The number by which the members' keys are refused, 0 where they are not: 6 a number that is no key; 22 two equal keys.
-pub fn keys_refusal(gr: Group, ys: &[u32]) -> u32
-    ensures { result ≡ refusal (key_checks gr ys.now) }
+// The number by which the members' keys are refused: 6 a number that is no key; 22 two equal keys.
+pub fn check_keys(gr: Group, ys: &[u32]) -> Result<(), Refusal>
+    ensures { result ≡ outcome (key_checks gr ys.now) tt }
 {
     if !all_keys(gr, ys) {
-        return refusal::NO_ELEMENT;
+        return Err(Refusal::NoElement);
     }
     if !none_twice(ys) {
-        return refusal::SAME_KEY;
+        return Err(Refusal::SameKey);
     }
-    0
+    Ok(())
 }
 
 // A secret key: 1 to q - 1.

@@ -4,21 +4,19 @@ use mathlib.Core.Path.{◌≡◌, refl, sym, ap, ◌∙◌, subst}
 use mathlib.Core.List.{List, ◌++◌, append_assoc}
 use mathlib.Core.Logic.{⊎_elim}
 use Prim.Native.Nat.{ℕ}
-use Rattle.words.specs.Checks.{Check, Outcome, refused, refusal, outcome, Met, FirstUnmet}
+use Rattle.words.specs.Checks.{Check, Outcome, refusal, outcome, Met, FirstUnmet}
 use Rattle.words.proofs.Checks.{decided, if-met, if-unmet, value-exactly, refused-exactly}
 use Rattle.words.proofs.Stages.{rest-outcome, front-outcome, last-refused}
-use Rattle.group.specs.Answer.{element_outcome_of}
-use Rattle.sharing.specs.Setting.{setting_in, round_checks, setting_outcome_of, setting_outcome, judged, judged_else}
+use Rattle.sharing.specs.Setting.{setting_in, round_checks, setting_outcome, judged, judged_else}
 use Rattle.sharing.specs.declared.Round.{Round}
 use Rattle.sharing.specs.declared.Setting.{Setting}
-use Rattle.sharing.specs.declared.SettingAnswer.{SettingAnswer}
-use Rattle.sharing.specs.declared.SettingAnswer.TheVariants.{Value, Refused}
 use Rattle.board.specs.Board.{board_checks}
 use Rattle.verdicts.specs.Shares.{Judges}
 use Rattle.verdicts.specs.Draw.{draw_checks, draw_value, reached_draw, draw_outcome, JudgementIn}
 use Rattle.verdicts.specs.declared.Judgement.{Judgement}
 use Rattle.rulings.specs.Ruling.{refused_board, refused_ruling, reached_by, JudgedBy, RulingIn, JudgementOf}
 use Rattle.rulings.specs.declared.Ruling.{Ruling}
+use Rattle.std.specs.Prelude.{Ok, Err}
 
 -- the board's checks come behind those that give the setting
 pub reached-all : (b : List ℕ) (cs : List Check) (S : Setting) → reached_by b (outcome cs S) ≡ outcome (cs ++ board_checks S b) S
@@ -56,7 +54,7 @@ module _ (J : Judges) (T : List ℕ) (R : Round) (b : List ℕ) where
       record {
         verdicts = ap (λ (x : Judgement). x.verdicts) e ∙ sym (if-unmet _ _ checks k u);
         accepted = ap (λ (x : Judgement). x.accepted) e ∙ sym (if-unmet _ 0 checks k u);
-        draw = ap (λ (x : Judgement). element_outcome_of x.draw) e ∙ front-outcome checks (draw_checks J S b) k u (draw_value J S b) ∙ drawn;
+        draw = ap (λ (x : Judgement). x.draw) e ∙ front-outcome checks (draw_checks J S b) k u (draw_value J S b) ∙ drawn;
       }
 
   pub judged-round : {A : Judgement} → JudgedBy J b (reached_by b (setting_outcome T R)) A → JudgementOf J T R b A
@@ -71,31 +69,31 @@ module _ (J : Judges) (T : List ℕ) (R : Round) (b : List ℕ) where
 -- ---- a ruling, by the answer a that gives its setting and by what is reached
 module _ (J : Judges) (b : List ℕ) (a : SettingAnswer) where
   abbrev Ruled : Ruling → Type 0
-  Ruled A = RulingIn J (setting_outcome_of a) b A
+  Ruled A = RulingIn J (a) b A
 
-  ruled : {o : Outcome Setting} {A : Ruling} → setting_outcome_of A.setting ≡ o → JudgedBy J b o A.judgement
-      → reached_by b (setting_outcome_of a) ≡ o → Ruled A
+  ruled : {o : Outcome Setting} {A : Ruling} → A.setting ≡ o → JudgedBy J b o A.judgement
+      → reached_by b (a) ≡ o → Ruled A
   ruled {A = A} s j e =
       record { setting = s ∙ sym e; judgement = subst (λ (o : Outcome Setting). JudgedBy J b o A.judgement) (sym e) j }
 
-  refused-by : {k : ℕ} → reached_by b (setting_outcome_of a) ≡ refused k → Ruled (refused_ruling k)
+  refused-by : {k : ℕ} → reached_by b (a) ≡ Err k → Ruled (refused_ruling k)
   unfolding refused_ruling
   refused-by e = ruled refl refl e
 
-  pub setting-refused : {k : ℕ} {A : Ruling} → a ≡ Refused k → A ≡ refused_ruling k → Ruled A
-  setting-refused f e = subst Ruled (sym e) (refused-by (ap (λ (x : SettingAnswer). reached_by b (setting_outcome_of x)) f))
+  pub setting-refused : {k : ℕ} {A : Ruling} → a ≡ Err k → A ≡ refused_ruling k → Ruled A
+  setting-refused f e = subst Ruled (sym e) (refused-by (ap (λ (x : SettingAnswer). reached_by b (x)) f))
 
-  module _ {S : Setting} (f : a ≡ Value S) where
-    in-setting : reached_by b (setting_outcome_of a) ≡ outcome (board_checks S b) S
-    in-setting = ap (λ (x : SettingAnswer). reached_by b (setting_outcome_of x)) f
+  module _ {S : Setting} (f : a ≡ Ok S) where
+    in-setting : reached_by b (a) ≡ outcome (board_checks S b) S
+    in-setting = ap (λ (x : SettingAnswer). reached_by b (x)) f
 
     pub board-refused : {k : ℕ} {A : Ruling} → k ≡ refusal (board_checks S b) → (k ≡ 0 → ⊥) → A ≡ refused_ruling k → Ruled A
     board-refused h n e = subst Ruled (sym e) (refused-by (in-setting ∙ sym (last-refused (board_checks S b) h n S)))
 
-    pub board-reached : {A : Judgement} → Met (board_checks S b) → JudgementIn J S b A → Ruled (record { setting = Value S; judgement = A })
+    pub board-reached : {A : Judgement} → Met (board_checks S b) → JudgementIn J S b A → Ruled (record { setting = Ok S; judgement = A })
     board-reached m I = ruled refl I (in-setting ∙ (value-exactly Setting (board_checks S b) S).1 m)
 
 -- the judgement of a ruling by the setting of a table and a round is what they give
-pub ruled-round : (J : Judges) (T : List ℕ) (R : Round) (b : List ℕ) (a : SettingAnswer) {A : Ruling} → setting_outcome_of a ≡ setting_outcome T R
-    → RulingIn J (setting_outcome_of a) b A → JudgementOf J T R b A.judgement
+pub ruled-round : (J : Judges) (T : List ℕ) (R : Round) (b : List ℕ) (a : SettingAnswer) {A : Ruling} → a ≡ setting_outcome T R
+    → RulingIn J (a) b A → JudgementOf J T R b A.judgement
 ruled-round J T R b a {A = A} e I = judged-round J T R b (subst (λ (o : Outcome Setting). JudgedBy J b (reached_by b o) A.judgement) e I.judgement)

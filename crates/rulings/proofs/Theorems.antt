@@ -2,14 +2,12 @@
 use mathlib.Core.Path.{◌≡◌, refl, sym, ap, ◌∙◌, subst}
 use mathlib.Core.List.{List, [], ◌++◌}
 use Prim.Native.Nat.{ℕ}
-use Rattle.words.specs.Checks.{Outcome, value, refused, outcome}
+use Rattle.words.specs.Checks.{Outcome, outcome}
 use Rattle.words.proofs.Checks.{value-met, value-exactly, refused-exactly, not-value}
 use Rattle.words.proofs.Stages.{met-both, behind-outcome}
 use Rattle.group.specs.Table.{groups_of, table_checks}
-use Rattle.sharing.specs.Setting.{setting_in, round_figures, setting_outcome_of}
+use Rattle.sharing.specs.Setting.{setting_in, round_figures}
 use Rattle.sharing.specs.declared.Setting.{Setting}
-use Rattle.sharing.specs.declared.SettingAnswer.{SettingAnswer}
-use Rattle.sharing.specs.declared.SettingAnswer.TheVariants.{Value, Refused}
 use Rattle.sharing.proofs.Theorems.{groups-alone}
 use Rattle.board.specs.Board.{board_checks}
 use Rattle.verdicts.specs.Shares.{Judges}
@@ -19,19 +17,20 @@ use Rattle.rulings.specs.Claims.{RulingReached, Settled, RulingSettled, RulingRe
 use Rattle.rulings.specs.declared.Ruling.{Ruling}
 use Rattle.rulings.proofs.Reached.{reached-all, judged-round}
 use Rattle.rulings.proofs.Settings.{files-round, checked-proper}
+use Rattle.std.specs.Prelude.{Ok, Err}
 
 -- ---- an answer by its outcome
-answer-value : (a : SettingAnswer) {S : Setting} → setting_outcome_of a ≡ value S → a ≡ Value S
-answer-value (Value R) {S} e = ap Value (value-met [] R S e).1
-answer-value (Refused k) e = absurd (not-value refl e)
+answer-value : (a : SettingAnswer) {S : Setting} → a ≡ Ok S → a ≡ Ok S
+answer-value (Ok R) {S} e = ap Ok (value-met [] R S e).1
+answer-value (Err k) e = absurd (not-value refl e)
 
-answer-refused : (a : SettingAnswer) {k : ℕ} → setting_outcome_of a ≡ refused k → a ≡ Refused k
-answer-refused (Value R) e = absurd (not-value refl (sym e))
-answer-refused (Refused i) e = ap Refused (ap number e)
+answer-refused : (a : SettingAnswer) {k : ℕ} → a ≡ Err k → a ≡ Err k
+answer-refused (Ok R) e = absurd (not-value refl (sym e))
+answer-refused (Err i) e = ap Err (ap number e)
   where
     number : Outcome Setting → ℕ
-    number (value S) = 0
-    number (refused k) = k
+    number (Ok S) = 0
+    number (Err k) = k
 
 module _ (J : Judges) (T s b : List ℕ) (A : Ruling) (I : RulingOf J T s b A) where
   abbrev S : Setting
@@ -41,7 +40,7 @@ module _ (J : Judges) (T s b : List ℕ) (A : Ruling) (I : RulingOf J T s b A) w
   unfolding files_outcome
   all-checks = reached-all b (setting_checks T s) S
 
-  ruling-setting : setting_outcome_of A.setting ≡ outcome (ruling_checks T s b) S
+  ruling-setting : A.setting ≡ outcome (ruling_checks T s b) S
   ruling-setting = I.setting ∙ all-checks
 
   ruling-judgement : {o : Outcome Setting} → outcome (ruling_checks T s b) S ≡ o → JudgedBy J b o A.judgement
@@ -54,14 +53,14 @@ ruling-reached J T s b A I =
     let S = setting_in T (round_in s) in
     let e = ruling-setting J T s b A I in (
       λ m. answer-value A.setting (e ∙ (value-exactly Setting cs S).1 m),
-      λ f. (value-exactly Setting cs S).0 (sym e ∙ ap setting_outcome_of f),
+      λ f. (value-exactly Setting cs S).0 (sym e ∙ ap f),
     )
 
 pub ruling-settled : RulingSettled
 ruling-settled J T s b A I S f =
     let cs = ruling_checks T s b in
     let R = setting_in T (round_in s) in
-    let v = value-met cs R S (sym (ruling-setting J T s b A I) ∙ ap setting_outcome_of f) in
+    let v = value-met cs R S (sym (ruling-setting J T s b A I) ∙ ap f) in
     let m = met-both (setting_checks T s) (board_checks R b) v.0 in
     subst (λ (X : Setting). Settled J T s b X A) v.1
     (record {
@@ -77,13 +76,13 @@ ruling-refused J T s b A I k =
     let S = setting_in T (round_in s) in
     let e = ruling-setting J T s b A I in (
       λ u. answer-refused A.setting (e ∙ (refused-exactly Setting cs S k).1 u),
-      λ f. (refused-exactly Setting cs S k).0 (sym e ∙ ap setting_outcome_of f),
+      λ f. (refused-exactly Setting cs S k).0 (sym e ∙ ap f),
     )
 
 pub ruling-empty : RulingEmpty
 unfolding refused_ruling
 ruling-empty J T s b A I k f =
-    let j = ruling-judgement J T s b A I (sym (ruling-setting J T s b A I) ∙ ap setting_outcome_of f) in
+    let j = ruling-judgement J T s b A I (sym (ruling-setting J T s b A I) ∙ ap f) in
     λ i. record { setting = f i; judgement = j i }
 
 pub ruling-judged : RulingJudged

@@ -1,10 +1,9 @@
 -- What is claimed of the ruling on a table, a set and a board: of every answer A that judge_files may give.
-use Rattle.std.specs.Prelude.{◌≡◌, List, ◌↔◌, ℕ}
+use Rattle.std.specs.Prelude.{◌≡◌, List, ◌↔◌, ℕ, Ok, Err}
 use Rattle.words.specs.Checks.{Met, FirstUnmet}
 use Rattle.group.specs.Table.{groups_of, table_checks}
 use Rattle.sharing.specs.Setting.{ProperSetting, setting_in}
 use Rattle.sharing.specs.declared.Setting.{Setting}
-use Rattle.sharing.specs.declared.SettingAnswer.TheVariants.{Value, Refused}
 use Rattle.board.specs.Board.{board_checks}
 use Rattle.verdicts.specs.Shares.{Judges}
 use Rattle.verdicts.specs.Draw.{JudgementIn}
@@ -16,7 +15,7 @@ use Rattle.rulings.specs.declared.Ruling.{Ruling}
 abbrev pub RulingReached : Type 0
 RulingReached =
     (J : Judges) (T s b : List ℕ) (A : Ruling) → RulingOf J T s b A
-    → Met (ruling_checks T s b) ↔ (A.setting ≡ Value (setting_in T (round_in s)))
+    → Met (ruling_checks T s b) ↔ (A.setting ≡ Ok (setting_in T (round_in s)))
 
 -- what a caller has where there is a setting S: it is proper, and the judgement is that of the board in it
 pub record Settled (J : Judges) (T s b : List ℕ) (S : Setting) (A : Ruling) : Type 0 where
@@ -28,19 +27,19 @@ pub record Settled (J : Judges) (T s b : List ℕ) (S : Setting) (A : Ruling) : 
 abbrev pub RulingSettled : Type 0
 RulingSettled =
     (J : Judges) (T s b : List ℕ) (A : Ruling) → RulingOf J T s b A
-    → (S : Setting) → A.setting ≡ Value S → Settled J T s b S A
+    → (S : Setting) → A.setting ≡ Ok S → Settled J T s b S A
 
 -- it has the number k for a setting exactly where the first of these checks that is not met has that number
 abbrev pub RulingRefused : Type 0
 RulingRefused =
     (J : Judges) (T s b : List ℕ) (A : Ruling) → RulingOf J T s b A
-    → (k : ℕ) → FirstUnmet k (ruling_checks T s b) ↔ (A.setting ≡ Refused k)
+    → (k : ℕ) → FirstUnmet k (ruling_checks T s b) ↔ (A.setting ≡ Err k)
 
 -- and then it holds nothing else: no verdict, the count 0, and a draw that is refused by k
 abbrev pub RulingEmpty : Type 0
 RulingEmpty =
     (J : Judges) (T s b : List ℕ) (A : Ruling) → RulingOf J T s b A
-    → (k : ℕ) → A.setting ≡ Refused k → A ≡ refused_ruling k
+    → (k : ℕ) → A.setting ≡ Err k → A ≡ refused_ruling k
 
 -- where the table and the set are accepted, its judgement is what judge_board answers for the set's round
 abbrev pub RulingJudged : Type 0

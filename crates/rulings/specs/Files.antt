@@ -1,6 +1,5 @@
 -- The files of a round: groups.tab and round.set, and the setting that they leave.
 use Rattle.std.specs.Prelude.{List, [], ◌∷◌, ◌++◌, ℕ, length, eqb}
-use Rattle.words.specs.Numbers.{bad_length, bad_form}
 use Rattle.words.specs.Checks.{Check, ◌unless◌, Outcome, outcome}
 use Rattle.words.specs.Bytes.{record_in}
 use Rattle.group.specs.Table.{groups_of, table_checks}
@@ -8,13 +7,14 @@ use Rattle.sharing.specs.Setting.{setting_in, round_figures}
 use Rattle.sharing.specs.declared.Round.{Round}
 use Rattle.sharing.specs.declared.Setting.{Setting}
 use Rattle.records.specs.Layout.{set_group, set_n, set_t, set_round, set_first, is_set_record}
+use Rattle.words.specs.declared.refusal.Refusal.TheVariants.{BadLength, BadForm}
 
 -- ---- round.set: one record
 -- another length by 3, another shape by 4
 abbrev pub set_checks : List ℕ → List Check
 set_checks s =
-    bad_length unless eqb (length s) 32
-    ∷ bad_form unless is_set_record (record_in s)
+    BadLength unless eqb (length s) 32
+    ∷ BadForm unless is_set_record (record_in s)
     ∷ []
 
 -- the round of its record

@@ -1,7 +1,6 @@
 -- What is claimed of the definition and of the answers. The proofs are in proofs/Examples.antt, Padded.antt and Values.antt.
-use Rattle.std.specs.Prelude.{◌≡◌, ℕ, ◌+◌, ◌%◌, ◌^◌, ◌<◌, ◌≤◌, ◌↔◌, List, [], ◌∷◌, length}
+use Rattle.std.specs.Prelude.{◌≡◌, ℕ, ◌+◌, ◌%◌, ◌^◌, ◌<◌, ◌≤◌, ◌↔◌, List, [], ◌∷◌, length, Ok, Err}
 use Rattle.words.specs.Lists.{Below}
-use Rattle.words.specs.Checks.{value, refused}
 use Rattle.words.specs.Bytes.{record_words}
 use Rattle.words.specs.declared.Record.{Record}
 use Rattle.sha256.specs.Padding.{zero_bits, pad}
@@ -44,8 +43,8 @@ HashBytes = (m : List ℕ) → (length (hash m) ≡ 32) × Below 256 (hash m)
 -- ---- answers
 -- a value is answered exactly for a message that is not too long, and it is its hash value
 abbrev pub DigestValue : Type 0
-DigestValue = (m : List ℕ) (r : Record) → (digest_outcome m ≡ value r) ↔ ((length m ≤ 65536) × (hash_value m ≡ r))
+DigestValue = (m : List ℕ) (r : Record) → (digest_outcome m ≡ Ok r) ↔ ((length m ≤ 65536) × (hash_value m ≡ r))
 
 -- a message is refused exactly if it is too long, and by 3 alone
 abbrev pub DigestRefused : Type 0
-DigestRefused = (m : List ℕ) (k : ℕ) → (digest_outcome m ≡ refused k) ↔ ((65536 < length m) × (k ≡ 3))
+DigestRefused = (m : List ℕ) (k : ℕ) → (digest_outcome m ≡ Err k) ↔ ((65536 < length m) × (k ≡ 3))

@@ -2,7 +2,7 @@
 #![tactic(auto)]
 
 ghost use Rattle.std.specs.Prelude.{◌≡◌};
-ghost use Rattle.sha256.specs.Answer.{outcome_of, digest_outcome};
+ghost use Rattle.sha256.specs.Answer.{digest_outcome};
 
 mod constants;
 mod padding;
@@ -11,7 +11,7 @@ mod state;
 mod word;
 
 pub use state::State;
-use words::{Record, refusal};
+use words::{Record, Refusal};
 
 // The digest as eight words, or the number of a refusal.
 #[derive(Clone, Copy)]
@@ -21,11 +21,11 @@ pub enum DigestAnswer {
 }
 
 // The digest of a message of at most 65,536 bytes; a longer one is refused 3.
-pub fn digest(s: &[u8]) -> DigestAnswer
+pub fn digest(s: &[u8]) -> Result<Record, Refusal>
     ensures { outcome_of result ≡ digest_outcome s.now }
 {
     if 65536 < s.len() {
-        return DigestAnswer::Refused(refusal::BAD_LENGTH);
+        return Err(Refusal::BadLength);
     }
     let count = padding::blocks(s);
     let mut state = State::new();
@@ -35,5 +35,5 @@ pub fn digest(s: &[u8]) -> DigestAnswer
         state = state.absorb(&m);
         i += 1;
     }
-    DigestAnswer::Value(state.hash_value())
+    Ok(state.hash_value())
 }

@@ -10,7 +10,7 @@ use native.Mathlib.Omega.{arith}
 use borrow.Author.Tests.{ne_eqb}
 use lib.ListN.{length}
 use Rattle.words.specs.Lists.{Below}
-use Rattle.words.specs.Checks.{Check, value, refused, Met, FirstUnmet}
+use Rattle.words.specs.Checks.{Check, Met, FirstUnmet}
 use Rattle.words.specs.Bytes.{record_words, record_in}
 use Rattle.words.specs.declared.Record.{Record}
 use Rattle.words.proofs.Checks.{value-exactly, refused-exactly, if-met, if-unmet}
@@ -38,6 +38,8 @@ use Rattle.challenge.proofs.Challenges.{challenge-low}
 use Rattle.equality.proofs.Equal.{response-low, announced-back}
 use Rattle.share.proofs.Settled.{dealer-most, WritableShare, admission-exactly, admission-stages, figures-exactly, write-settled}
 use Rattle.share.proofs.Keys.{h-element, key-proper, share-to-x}
+use Rattle.std.specs.Prelude.{Ok, Err}
+use Rattle.words.specs.declared.refusal.Refusal.TheVariants.{OtherRound}
 
 -- ---- judged
 pub share-exactly : ShareExactly
@@ -59,7 +61,7 @@ share-of-other-round S F i y Y b before n =
     let r = record_in b in
     let numbers = members_checks S F i in
     let inputs = share_input_checks S.group y Y b in
-    let round : FirstUnmet 17 (share_form_checks S.round F i r) = inr (before.form, inl (ne_eqb (round_of r) S.round n, refl)) in
+    let round : FirstUnmet OtherRound (share_form_checks S.round F i r) = inr (before.form, inl (ne_eqb (round_of r) S.round n, refl)) in
     let met = both-met numbers inputs before.numbers before.inputs in
     let front = rest-first (numbers ++ inputs) (share_form_checks S.round F i r) 17 met round in
     sym (front-outcome (share_admission_checks S F i y Y b) (share_figure_checks S F i y Y r) 17 front (record { 0 = Z_of r }))
@@ -149,16 +151,16 @@ module _ (S : Setting) (P : ProperSetting S) (word : S.round < 2 ^ 32) (F : Shar
   unfolding written_share
   read-written = read_back written words
 
-  pub written-accepted : judge_share_in S F i y Y (written_share S F i Y x w) ≡ value (record { 0 = Z })
+  pub written-accepted : judge_share_in S F i y Y (written_share S F i Y x w) ≡ Ok (record { 0 = Z })
   unfolding written_share_record
   written-accepted =
       let b : List ℕ = written_share S F i Y x w in
       (share-exactly S F i y Y b).1 (subst (AcceptedShare S F i y Y b) (sym read-written) written-proper)
-      ∙ ap (λ (r : Record). value (record { 0 = Z_of r })) read-written
+      ∙ ap (λ (r : Record). Ok (record { 0 = Z_of r })) read-written
 
   -- in the round of another number, under either rule
   pub refused-elsewhere : (round : ℕ) → (round ≡ S.round → ⊥) → (whole : Bool)
-      → judge_share_in (in_round round whole S) F i y Y (written_share S F i Y x w) ≡ refused 17
+      → judge_share_in (in_round round whole S) F i y Y (written_share S F i Y x w) ≡ Err OtherRound
   unfolding members_checks written_share_record
   refused-elsewhere round n whole =
       let b : List ℕ = written_share S F i Y x w in
@@ -193,7 +195,7 @@ lent-share-kept S F i Y x w out k e =
     if-unmet (written_share S F i Y x w) out checks k ((refused-exactly Unit checks tt k).0 e)
 
 -- ---- over a table and a round: what is written over them, and judged over them or in a round of other numbers
-module _ (T : List ℕ) (R : Round) (F : ShareForm) (i Y x w : ℕ) (out : List ℕ) (e : write_share_outcome T R F i Y x w (length out) ≡ value tt) where
+module _ (T : List ℕ) (R : Round) (F : ShareForm) (i Y x w : ℕ) (out : List ℕ) (e : write_share_outcome T R F i Y x w (length out) ≡ Ok tt) where
   abbrev within : Setting
   within = setting_in T R
 
@@ -228,11 +230,11 @@ module _ (T : List ℕ) (R : Round) (F : ShareForm) (i Y x w : ℕ) (out : List 
     abbrev figures : WritableShare within F i Y x w (length out)
     figures = write-settled within F i Y x w (length out) settled.1
 
-    complete : judge_share_outcome T R F i key Y (lent_after_share T R F i Y x w out) ≡ value (record { 0 = share_of within.group Y x })
+    complete : judge_share_outcome T R F i key Y (lent_after_share T R F i Y x w out) ≡ Ok (record { 0 = share_of within.group Y x })
     complete = judged-written R settled.0 ∙ written-accepted within proper word F kind i Y x w (length out) figures
 
     for-other-round : (round first : ℕ) → (round ≡ R.round → ⊥)
-        → judge_share_outcome T (with_numbers round first R) F i key Y (lent_after_share T R F i Y x w out) ≡ refused 17
+        → judge_share_outcome T (with_numbers round first R) F i key Y (lent_after_share T R F i Y x w out) ≡ Err OtherRound
     unfolding round_checks round_figures
     for-other-round round first n =
         judged-written (with_numbers round first R) settled.0

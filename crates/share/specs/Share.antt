@@ -3,7 +3,6 @@
 -- The decrypted share, the paper's S, is Z here, for S is the setting.
 use Rattle.std.specs.Prelude.{Bool, ◌&&◌, List, [], ◌∷◌, ◌++◌, ℕ, length, eqb}
 use Rattle.words.specs.Choice.{pick}
-use Rattle.words.specs.Numbers.{bad_length, bad_form, no_element, no_exponent, no_member, proof_fails, other_round}
 use Rattle.words.specs.Checks.{Check, ◌unless◌, Outcome, outcome, if_met}
 use Rattle.words.specs.Bytes.{record_bytes, record_in}
 use Rattle.words.specs.declared.Record.{Record}
@@ -20,6 +19,7 @@ use Rattle.records.specs.Keys.{is_key, is_secret_key}
 use Rattle.challenge.specs.Message.{challenge_of, share_message, share_tag, added_tag}
 use Rattle.equality.specs.Equality.{announced, response}
 use Rattle.share.specs.declared.ShareForm.{ShareForm}
+use Rattle.words.specs.declared.refusal.Refusal.TheVariants.{BadLength, BadForm, NoElement, NoExponent, NoMember, ProofFails, OtherRound}
 
 -- ---- forms
 -- a share of the dealing of d
@@ -36,7 +36,7 @@ is_dealer n F = pick (eqb F.kind added_kind) (eqb F.dealer 0) (is_member n F.dea
 
 -- the dealer is one, and i is a member
 unfoldable pub members_checks : Setting → ShareForm → ℕ → List Check
-members_checks S F i = no_member unless (is_dealer S.n F && is_member S.n i) ∷ []
+members_checks S F i = NoMember unless (is_dealer S.n F && is_member S.n i) ∷ []
 
 -- ---- written: from Y, the secret key x and the nonce w
 -- the key of a secret key
@@ -66,9 +66,9 @@ written_share S F i Y x w = record_bytes (written_share_record S F i Y x w)
 unfoldable pub write_share_checks : Setting → ShareForm → ℕ → ℕ → ℕ → ℕ → ℕ → List Check
 write_share_checks S F i Y x w room =
     members_checks S F i ++
-    (bad_length unless eqb room 32
-    ∷ no_element unless is_element S.group Y
-    ∷ no_exponent unless (is_secret_key S.group x && is_exponent S.group w)
+    (BadLength unless eqb room 32
+    ∷ NoElement unless is_element S.group Y
+    ∷ NoExponent unless (is_secret_key S.group x && is_exponent S.group w)
     ∷ [])
 
 unfoldable pub write_share_in : Setting → ShareForm → ℕ → ℕ → ℕ → ℕ → ℕ → Outcome (Unit {0})
@@ -94,7 +94,7 @@ share_recomputed S F i y Y r =
 
 -- 32 bytes, a key and an element
 unfoldable pub share_input_checks : Group → ℕ → ℕ → List ℕ → List Check
-share_input_checks G y Y b = bad_length unless eqb (length b) 32 ∷ no_element unless (is_key G y && is_element G Y) ∷ []
+share_input_checks G y Y b = BadLength unless eqb (length b) 32 ∷ NoElement unless (is_key G y && is_element G Y) ∷ []
 
 -- a record of a share of i in this form
 abbrev pub is_share_for : ShareForm → ℕ → Record → Bool
@@ -102,7 +102,7 @@ is_share_for F i r = is_share_record F.kind r && (eqb (dealer_of r) F.dealer && 
 
 -- and then of that round
 unfoldable pub share_form_checks : ℕ → ShareForm → ℕ → Record → List Check
-share_form_checks round F i r = bad_form unless is_share_for F i r ∷ other_round unless is_of_round round r ∷ []
+share_form_checks round F i r = BadForm unless is_share_for F i r ∷ OtherRound unless is_of_round round r ∷ []
 
 -- all that comes before the figures: on a board it is settled before shares are judged
 unfoldable pub share_admission_checks : Setting → ShareForm → ℕ → ℕ → ℕ → List ℕ → List Check
@@ -110,9 +110,9 @@ share_admission_checks S F i y Y b = members_checks S F i ++ share_input_checks 
 
 unfoldable pub share_figure_checks : Setting → ShareForm → ℕ → ℕ → ℕ → Record → List Check
 share_figure_checks S F i y Y r =
-    no_element unless is_element S.group (Z_of r)
-    ∷ no_exponent unless (is_exponent S.group (share_c r) && is_exponent S.group (share_r r))
-    ∷ proof_fails unless eqb (share_c r) (share_recomputed S F i y Y r)
+    NoElement unless is_element S.group (Z_of r)
+    ∷ NoExponent unless (is_exponent S.group (share_c r) && is_exponent S.group (share_r r))
+    ∷ ProofFails unless eqb (share_c r) (share_recomputed S F i y Y r)
     ∷ []
 
 abbrev pub judge_share_checks : Setting → ShareForm → ℕ → ℕ → ℕ → List ℕ → List Check

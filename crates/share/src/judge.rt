@@ -1,7 +1,6 @@
 // The judging of a decrypted share, opened or added.
 ghost use Rattle.std.specs.Prelude.{◌≡◌, ◌≤◌};
-ghost use Rattle.words.specs.Checks.{refusal};
-ghost use Rattle.group.specs.Answer.{element_outcome_of};
+ghost use Rattle.words.specs.Checks.{outcome};
 ghost use Rattle.sharing.specs.Setting.{ProperSetting};
 ghost use Rattle.share.specs.Share.{opened_form, added_form, is_share_for, share_recomputed, share_admission_checks};
 ghost use Rattle.share.specs.Share.{judge_share_figures_in, judge_share_in, judge_share_outcome};
@@ -10,10 +9,10 @@ use crate::form::{added_form, are_members, opened_form};
 use crate::{EncryptedShare, ShareForm};
 use challenge::{ShareFigures, share_challenge};
 use equality::announced;
-use group::{Element, ElementAnswer, Exponent, is_element, is_exponent};
+use group::{Element, Exponent, is_element, is_exponent};
 use records::{is_key, is_of_round, is_share_record};
-use sharing::{Round, Setting, SettingAnswer, setting_of};
-use words::{Record, refusal};
+use sharing::{Round, Setting, setting_of};
+use words::{Record, Refusal};
 
 // Whether a record is a share of the member i in this form.
 fn is_share_of(form: ShareForm, i: u32, share: Record) -> bool
@@ -28,28 +27,27 @@ fn is_share_of(form: ShareForm, i: u32, share: Record) -> bool
     share.w2 == i
 }
 
-// The first number refused of all that comes before the figures: 8, 3, 6 for y or the encrypted share, 4 and 17; 0 where none
-// is.
-fn admission_refusal(s: Setting, e: EncryptedShare, y: Element, b: &[u8]) -> u32
-    ensures { result ≡ refusal (share_admission_checks s e.form e.member y.0 e.encrypted.0 b.now) }
+// The first number refused of all that comes before the figures: 8, 3, 6 for y or the encrypted share, 4 and 17.
+fn check_admission(s: Setting, e: EncryptedShare, y: Element, b: &[u8]) -> Result<(), Refusal>
+    ensures { result ≡ outcome (share_admission_checks s e.form e.member y.0 e.encrypted.0 b.now) tt }
 {
     if !are_members(s.n, e.form, e.member) {
-        return refusal::NO_MEMBER;
+        return Err(Refusal::NoMember);
     }
     if b.len() != 32 {
-        return refusal::BAD_LENGTH;
+        return Err(Refusal::BadLength);
     }
     if !is_key(s.group, y) || !is_element(s.group, e.encrypted) {
-        return refusal::NO_ELEMENT;
+        return Err(Refusal::NoElement);
     }
     let share = words::read_record(b);
     if !is_share_of(e.form, e.member, share) {
-        return refusal::BAD_FORM;
+        return Err(Refusal::BadForm);
     }
     if !is_of_round(s.round, share) {
-        return refusal::OTHER_ROUND;
+        return Err(Refusal::OtherRound);
     }
-    0
+    Ok(())
 }
 
 // The challenge that the figures of the record give, with the key y of the member.
@@ -77,48 +75,43 @@ fn recomputed(s: Setting, e: EncryptedShare, y: Element, share: Record) -> Expon
 // Judges the figures of a share alone, for the encrypted share e and the key y of its member: an accepted one answers the decrypted
 // share. Refused: 6 it is no element; 7 c or r is not below q; 10 c is not the recomputed one.
 // Internal: callers ensure that the setting is proper, and a dealer and a member at most n; and where it is to be the whole
-// judgement, all that admission_refusal tests.
+// judgement, all that check_admission tests.
 pub fn judge_share_figures(
     s: Setting,
     e: EncryptedShare,
     y: Element,
     share: Record,
-) -> ElementAnswer
+) -> Result<Element, Refusal>
     requires { (ProperSetting s) × (e.form.dealer ≤ s.n) × (e.member ≤ s.n) }
-    ensures { element_outcome_of result ≡ judge_share_figures_in s e.form e.member y.0 e.encrypted.0 share }
+    ensures { result ≡ judge_share_figures_in s e.form e.member y.0 e.encrypted.0 share }
 {
     if !is_element(s.group, Element(share.w3)) {
-        return ElementAnswer::Refused(refusal::NO_ELEMENT);
+        return Err(Refusal::NoElement);
     }
     if !is_exponent(s.group, Exponent(share.w4)) || !is_exponent(s.group, Exponent(share.w5)) {
-        return ElementAnswer::Refused(refusal::NO_EXPONENT);
+        return Err(Refusal::NoExponent);
     }
     if share.w4 != recomputed(s, e, y, share).0 {
-        return ElementAnswer::Refused(refusal::PROOF_FAILS);
+        return Err(Refusal::ProofFails);
     }
-    ElementAnswer::Value(Element(share.w3))
+    Ok(Element(share.w3))
 }
 
 // The judging in a setting: 8, 3, 6, 4, 17, 6, 7 and 10 as judge_share. Internal: callers ensure that the setting is proper.
-fn judge_in(s: Setting, e: EncryptedShare, y: Element, b: &[u8]) -> ElementAnswer
+fn judge_in(s: Setting, e: EncryptedShare, y: Element, b: &[u8]) -> Result<Element, Refusal>
     requires { ProperSetting s }
-    ensures { element_outcome_of result ≡ judge_share_in s e.form e.member y.0 e.encrypted.0 b.now }
+    ensures { result ≡ judge_share_in s e.form e.member y.0 e.encrypted.0 b.now }
 {
-    let k = admission_refusal(s, e, y, b);
-    if k != 0 {
-        return ElementAnswer::Refused(k);
-    }
+    check_admission(s, e, y, b)?;
     judge_share_figures(s, e, y, words::read_record(b))
 }
 
 // The judging over a table and a round: as setting_of, and then as in their setting.
-fn judge(table: &[u8], rd: Round, e: EncryptedShare, y: Element, b: &[u8]) -> ElementAnswer
-    ensures { element_outcome_of result ≡ judge_share_outcome table.now rd e.form e.member y.0 e.encrypted.0 b.now }
+fn judge(table: &[u8], rd: Round, e: EncryptedShare, y: Element, b: &[u8]) -> Result<Element, Refusal>
+    ensures { result ≡ judge_share_outcome table.now rd e.form e.member y.0 e.encrypted.0 b.now }
 {
-    match setting_of(table, rd) {
-        SettingAnswer::Refused(k) => ElementAnswer::Refused(k),
-        SettingAnswer::Value(s) => judge_in(s, e, y, b),
-    }
+    let s = setting_of(table, rd)?;
+    judge_in(s, e, y, b)
 }
 
 // Judges the record b of an opened share of the member i for the dealer d, with the key y of the member and the encrypted share
@@ -133,8 +126,8 @@ pub fn judge_share(
     y: Element,
     encrypted: Element,
     b: &[u8],
-) -> ElementAnswer
-    ensures { element_outcome_of result ≡ judge_share_outcome table.now rd (opened_form d) i y.0 encrypted.0 b.now }
+) -> Result<Element, Refusal>
+    ensures { result ≡ judge_share_outcome table.now rd (opened_form d) i y.0 encrypted.0 b.now }
 {
     let opened = EncryptedShare {
         form: opened_form(d),
@@ -155,8 +148,8 @@ pub fn judge_added(
     y: Element,
     encrypted: Element,
     b: &[u8],
-) -> ElementAnswer
-    ensures { element_outcome_of result ≡ judge_share_outcome table.now rd added_form i y.0 encrypted.0 b.now }
+) -> Result<Element, Refusal>
+    ensures { result ≡ judge_share_outcome table.now rd added_form i y.0 encrypted.0 b.now }
 {
     let added = EncryptedShare {
         form: added_form(),

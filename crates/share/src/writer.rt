@@ -1,6 +1,6 @@
 // The writing of a decrypted share, opened or added.
 ghost use Rattle.std.specs.Prelude.{◌≡◌, ◌<◌, ◌≤◌, length};
-ghost use Rattle.words.specs.Checks.{refusal, check_outcome_of};
+ghost use Rattle.words.specs.Checks.{outcome};
 ghost use Rattle.sharing.specs.Setting.{ProperSetting};
 ghost use Rattle.share.specs.Share.{opened_form, added_form, written_share, write_share_checks, write_share_in, write_share_outcome};
 ghost use Rattle.share.specs.Share.{lent_after_share_in, lent_after_share};
@@ -11,26 +11,26 @@ use challenge::{ShareFigures, share_challenge};
 use equality::response;
 use group::{Element, Exponent, is_element, is_exponent};
 use records::{is_secret_key, share_record};
-use sharing::{Round, Setting, SettingAnswer, setting_of};
-use words::{CheckAnswer, refusal};
+use sharing::{Round, Setting, setting_of};
+use words::Refusal;
 
-// The first number refused in a setting, 0 where nothing is.
-fn write_refusal(s: Setting, e: EncryptedShare, x: Exponent, w: Exponent, room: usize) -> u32
-    ensures { result ≡ refusal (write_share_checks s e.form e.member e.encrypted.0 x.0 w.0 room) }
+// The first number refused in a setting,.
+fn check_writing(s: Setting, e: EncryptedShare, x: Exponent, w: Exponent, room: usize) -> Result<(), Refusal>
+    ensures { result ≡ outcome (write_share_checks s e.form e.member e.encrypted.0 x.0 w.0 room) tt }
 {
     if !are_members(s.n, e.form, e.member) {
-        return refusal::NO_MEMBER;
+        return Err(Refusal::NoMember);
     }
     if room != 32 {
-        return refusal::BAD_LENGTH;
+        return Err(Refusal::BadLength);
     }
     if !is_element(s.group, e.encrypted) {
-        return refusal::NO_ELEMENT;
+        return Err(Refusal::NoElement);
     }
     if !is_secret_key(s.group, x) || !is_exponent(s.group, w) {
-        return refusal::NO_EXPONENT;
+        return Err(Refusal::NoExponent);
     }
-    0
+    Ok(())
 }
 
 // Writes the share that the secret key x gives of the encrypted share, with the nonce w.
@@ -59,17 +59,14 @@ fn put_share(s: Setting, e: EncryptedShare, x: Exponent, w: Exponent, out: &mut 
 }
 
 // The writing in a setting: 8, 3, 6 and 7 as write_share. Internal: callers ensure that the setting is proper.
-fn write_in(s: Setting, e: EncryptedShare, x: Exponent, w: Exponent, out: &mut [u8]) -> CheckAnswer
+fn write_in(s: Setting, e: EncryptedShare, x: Exponent, w: Exponent, out: &mut [u8]) -> Result<(), Refusal>
     requires { ProperSetting s }
-    ensures result_value { check_outcome_of result ≡ write_share_in s e.form e.member e.encrypted.0 x.0 w.0 (length out.old) }
+    ensures result_value { result ≡ write_share_in s e.form e.member e.encrypted.0 x.0 w.0 (length out.old) }
     ensures out_after { out.new ≡ lent_after_share_in s e.form e.member e.encrypted.0 x.0 w.0 out.old }
 {
-    let k = write_refusal(s, e, x, w, out.len());
-    if k != 0 {
-        return CheckAnswer::Refused(k);
-    }
+    check_writing(s, e, x, w, out.len())?;
     put_share(s, e, x, w, out);
-    CheckAnswer::Passed
+    Ok(())
 }
 
 // The writing over a table and a round: as setting_of, and then as in their setting.
@@ -80,14 +77,12 @@ fn write(
     x: Exponent,
     w: Exponent,
     out: &mut [u8],
-) -> CheckAnswer
-    ensures result_value { check_outcome_of result ≡ write_share_outcome table.now rd e.form e.member e.encrypted.0 x.0 w.0 (length out.old) }
+) -> Result<(), Refusal>
+    ensures result_value { result ≡ write_share_outcome table.now rd e.form e.member e.encrypted.0 x.0 w.0 (length out.old) }
     ensures out_after { out.new ≡ lent_after_share table.now rd e.form e.member e.encrypted.0 x.0 w.0 out.old }
 {
-    match setting_of(table, rd) {
-        SettingAnswer::Refused(k) => CheckAnswer::Refused(k),
-        SettingAnswer::Value(s) => write_in(s, e, x, w, out),
-    }
+    let s = setting_of(table, rd)?;
+    write_in(s, e, x, w, out)
 }
 
 // Writes the opened share of the member i for the dealer d, from the encrypted share, the secret key x and the nonce w.
@@ -102,8 +97,8 @@ pub fn write_share(
     x: Exponent,
     w: Exponent,
     out: &mut [u8],
-) -> CheckAnswer
-    ensures result_value { check_outcome_of result ≡ write_share_outcome table.now rd (opened_form d) i encrypted.0 x.0 w.0 (length out.old) }
+) -> Result<(), Refusal>
+    ensures result_value { result ≡ write_share_outcome table.now rd (opened_form d) i encrypted.0 x.0 w.0 (length out.old) }
     ensures out_after { out.new ≡ lent_after_share table.now rd (opened_form d) i encrypted.0 x.0 w.0 out.old }
 {
     let opened = EncryptedShare {
@@ -125,8 +120,8 @@ pub fn write_added(
     x: Exponent,
     w: Exponent,
     out: &mut [u8],
-) -> CheckAnswer
-    ensures result_value { check_outcome_of result ≡ write_share_outcome table.now rd added_form i encrypted.0 x.0 w.0 (length out.old) }
+) -> Result<(), Refusal>
+    ensures result_value { result ≡ write_share_outcome table.now rd added_form i encrypted.0 x.0 w.0 (length out.old) }
     ensures out_after { out.new ≡ lent_after_share table.now rd added_form i encrypted.0 x.0 w.0 out.old }
 {
     let added = EncryptedShare {

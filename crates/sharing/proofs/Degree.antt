@@ -11,7 +11,7 @@ use lib.ListN.{length, get_or}
 use lib.Dec.{eqb}
 use Rattle.words.specs.Lists.{All, Below, map, all, up_from}
 use Rattle.words.specs.Choice.{pick}
-use Rattle.words.specs.Checks.{value, refused, Met}
+use Rattle.words.specs.Checks.{Met}
 use Rattle.words.proofs.Lists.{All-to, map-length, map-all, map_at, up-length, up-within, up_at}
 use Rattle.words.proofs.Tests.{all_true, true-all, equal-true, true-equal, pick_true, pick-false}
 use Rattle.words.proofs.Checks.{value-exactly}
@@ -33,6 +33,8 @@ use Rattle.sharing.proofs.Others.{weights-divided}
 use Rattle.sharing.proofs.Linear.{form-below}
 use Rattle.sharing.proofs.Generators.{Exponents, one-exactly, product-is-power}
 use Rattle.sharing.proofs.Rounds.{member-nodes}
+use Rattle.std.specs.Prelude.{Ok, Err}
+use Rattle.words.specs.declared.refusal.Refusal.TheVariants.{DegreeFails}
 
 -- ---- exponents below q, as a test
 module _ (G : Group) (es : List ℕ) where
@@ -68,7 +70,7 @@ module _ (S : Setting) (vs ds : List ℕ) where
   passed-product e = eqb-true _ 1 (passed-stages e).1.0
 
   module _ (C : Commitments S vs) (D : CheckPolynomial S ds) where
-    product-decides : degree_in S vs ds ≡ pick (eqb (degree_product S vs ds) 1) (value tt) (refused 9)
+    product-decides : degree_in S vs ds ≡ pick (eqb (degree_product S vs ds) 1) (Ok tt) (Err DegreeFails)
     unfolding degree_in degree_equation
     product-decides = sym (rest-outcome (degree_figures S vs ds) (degree_equation S vs ds) (figures-met.1 (C, D)) tt)
 
@@ -76,7 +78,7 @@ module _ (S : Setting) (vs ds : List ℕ) where
     product-passes e = product-decides ∙ pick_true (eqb (degree_product S vs ds) 1) _ _ (eq-eqb _ 1 e)
 
     -- what does not pass is refused 9
-    pub refused-nine : (Passes S vs ds → ⊥) → degree_in S vs ds ≡ refused 9
+    pub refused-nine : (Passes S vs ds → ⊥) → degree_in S vs ds ≡ Err DegreeFails
     refused-nine n = product-decides ∙ pick-false (eqb (degree_product S vs ds) 1) _ _ (ne_eqb _ 1 (λ e. n (product-passes e)))
 
 -- ---- the sums of the places

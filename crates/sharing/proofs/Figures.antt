@@ -3,7 +3,7 @@ use mathlib.Core.Path.{◌≡◌, refl}
 use mathlib.Core.List.{List, [], ◌∷◌}
 use Prim.Native.Nat.{ℕ}
 use native.Mathlib.Omega.{arith}
-use Rattle.words.specs.Checks.{refused, Met}
+use Rattle.words.specs.Checks.{Met}
 use Rattle.field.specs.Residue.{add, mul, sub, inv}
 use Rattle.group.specs.Power.{pow}
 use Rattle.group.specs.Table.{groups_of, table_checks, is_group, group_of}
@@ -15,6 +15,8 @@ use Rattle.sharing.specs.Carried.{powers_at, Carries, Commitments, CheckPolynomi
 use Rattle.sharing.specs.Figures.{small_round, small, CarriedFigures, FirstPlace, first_only, FirstOnlyFigures}
 use Rattle.sharing.proofs.Rounds.{round-proper}
 use Rattle.sharing.proofs.Theorems.{carried-passes}
+use Rattle.std.specs.Prelude.{Err}
+use Rattle.words.specs.declared.refusal.Refusal.TheVariants.{DegreeFails}
 
 met : Met (round_checks [] small_round)
 unfolding round_checks round_figures table_checks groups_of is_group in_range group_of
@@ -28,14 +30,14 @@ unfolding groups_of group_of powers_at pow add mul
 carried-figures = (met, record { polynomial = record { size = refl; low = (omega arith, (omega arith, tt)) }; powers = refl })
 
 -- a check polynomial that does not pass shows that no polynomial carries the commitments
-pub refused-uncarried : (vs ds : List ℕ) → CheckPolynomial small ds → degree_in small vs ds ≡ refused 9 → (f : List ℕ) → Carries small f vs → ⊥
+pub refused-uncarried : (vs ds : List ℕ) → CheckPolynomial small ds → degree_in small vs ds ≡ Err DegreeFails → (f : List ℕ) → Carries small f vs → ⊥
 refused-uncarried vs ds D e f K =
     let p = (carried-passes small small-proper f vs K).1 ds D in
     let z : ◌≡◌ {A = ℕ} 0 1 = cc in
     omega arith
 
 -- the same of the unit of the first place
-first-place : (vs : List ℕ) → Commitments small vs → place small vs ≡ 0 → degree_in small vs (1 ∷ 0 ∷ []) ≡ refused 9 → FirstPlace vs
+first-place : (vs : List ℕ) → Commitments small vs → place small vs ≡ 0 → degree_in small vs (1 ∷ 0 ∷ []) ≡ Err DegreeFails → FirstPlace vs
 unfolding groups_of group_of
 first-place vs C f e =
     record {

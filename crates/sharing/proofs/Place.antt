@@ -11,7 +11,6 @@ use native.Mathlib.Omega.{arith}
 use lib.ListN.{length, get_or, replicate, length-replicate}
 use Rattle.words.specs.Choice.{pick}
 use Rattle.words.specs.Lists.{Below}
-use Rattle.words.specs.Checks.{is_value}
 use Rattle.words.proofs.Checks.{is-value, not-value}
 use Rattle.field.specs.Residue.{residue_ops}
 use Rattle.field.specs.Polynomial.{dot}
@@ -24,6 +23,7 @@ use Rattle.sharing.proofs.Linear.{form-unit, form-one-value}
 use Rattle.sharing.proofs.Generators.{Exponents}
 use Rattle.sharing.proofs.Degree.{passed-polynomial, refused-nine, sums-length, sums-at, sums-all, sum_low, passes-exactly}
 use Rattle.sharing.proofs.Carried.{sums-carried}
+use Rattle.std.specs.Prelude.{is_ok}
 
 -- ---- the lowest number at which a test is false
 record Lowest (test : ℕ → Bool) (k m r : ℕ) : Type 0 where
@@ -91,7 +91,7 @@ module _ (S : Setting) (Y : ProperSetting S) (vs es : List ℕ) (C : Commitments
   pub carried-or-one : ((f : List ℕ) × Carries S f vs) ⊎ OneValue S vs
   unfolding place
   carried-or-one =
-      let r = is-lowest (λ k. is_value (degree_in S vs (unit_of S k))) 0 (S.n - S.t) in
+      let r = is-lowest (λ k. is_ok (degree_in S vs (unit_of S k))) 0 (S.n - S.t) in
       let lower : (k : ℕ) → k < place S vs → Passes S vs (unit_of S k) =
       λ k h. (is-value (degree_in S vs (unit_of S k)) (r.lower k (omega arith) h)).1 in
       ⊎_elim

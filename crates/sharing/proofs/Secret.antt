@@ -10,7 +10,7 @@ use native.Mathlib.Omega.{arith}
 use borrow.Author.Tests.{eq-eqb, eqb-true}
 use lib.ListN.{length, take}
 use Rattle.words.specs.Lists.{map, all}
-use Rattle.words.specs.Checks.{value, Met}
+use Rattle.words.specs.Checks.{Met}
 use Rattle.words.proofs.Lists.{map-length, map-comp, take-map, up-take}
 use Rattle.words.proofs.Checks.{value-exactly}
 use Rattle.words.proofs.Stages.{both-met, met-both}
@@ -31,6 +31,7 @@ use Rattle.sharing.proofs.Others.{lagrange-at-zero}
 use Rattle.sharing.proofs.Generators.{product-is-power, powers-elements}
 use Rattle.sharing.proofs.Rounds.{true-quorum, first-quorum, quorum-low, quorum-nonzero}
 use Rattle.sharing.proofs.Carried.{value-below, carried-commitments}
+use Rattle.std.specs.Prelude.{Ok}
 
 module _ (S : Setting) (Y : ProperSetting S) (f : List ℕ) (F : Polynomial S f) where
   pub recovered-secret : (b : ℕ) → Generator S.group b → (ms : List ℕ) → Quorum S ms
@@ -48,7 +49,7 @@ module _ (S : Setting) (Y : ProperSetting S) (f : List ℕ) (F : Polynomial S f)
       ∙ value-at-zero G.q P.prime-q f ms F.low (quorum-low Y Q) Q.distinct (quorum-nonzero Y Q) (omega (arith, F.size, Q.enough)))
 
   pub shares-recover : (ms ss : List ℕ) → Quorum S ms → TrueShares S f ms ss
-      → recovery_in S ms ss ≡ value (record { 0 = pow S.group.p S.group.h.0 (secret_of S f) })
+      → recovery_in S ms ss ≡ Ok (record { 0 = pow S.group.p S.group.h.0 (secret_of S f) })
   unfolding recovery_in powers_at
   shares-recover ms ss Q T =
       let G : Group = S.group in
@@ -58,7 +59,7 @@ module _ (S : Setting) (Y : ProperSetting S) (f : List ℕ) (F : Polynomial S f)
       let elements : all (is_element G) ss ≡ true = ap (all (is_element G)) T ∙ powers-elements G P h P.h-generates f ms in
       (value-exactly Element (recovery_checks S ms ss) (record { 0 = recovered G ms ss })).1
       (eq-eqb (length ms) (length ss) sizes, (true-quorum S ms Q, (elements, tt)))
-      ∙ ap (λ v. value (record { 0 = v })) (ap (recovered G ms) T ∙ recovered-secret h P.h-generates ms Q)
+      ∙ ap (λ v. Ok (record { 0 = v })) (ap (recovered G ms) T ∙ recovered-secret h P.h-generates ms Q)
 
 -- an opening's figures are met exactly if they are commitments and an exponent
 opening-figures : (S : Setting) (vs : List ℕ) (u : ℕ) → Met (opening_figures S vs u) ↔ (Commitments S vs × (u < S.group.q))
@@ -79,7 +80,7 @@ module _ (S : Setting) (Y : ProperSetting S) (f vs : List ℕ) (K : Carries S f 
       (ap (take S.t) K.powers ∙ take-map v S.t (members S.n) ∙ ap (map v) (up-take 1 S.t S.n Y.t-most))
       ∙ recovered-secret S Y f K.polynomial G.g.0 Y.proper.g-generates (members S.t) (first-quorum Y)
 
-  pub opens-secret : (u : ℕ) → opening_in S vs u ≡ value tt → u ≡ secret_of S f
+  pub opens-secret : (u : ℕ) → opening_in S vs u ≡ Ok tt → u ≡ secret_of S f
   unfolding opening_in opening_equation is_opening
   opens-secret u e =
       let G : Group = S.group in
@@ -89,7 +90,7 @@ module _ (S : Setting) (Y : ProperSetting S) (f vs : List ℕ) (K : Carries S f 
       let same = (same_power G P G.g.0 P.g-generates u (secret_of S f)).0 (eqb-true _ _ c.1.0 ∙ first-secret) in
       sym (mod-eq_of_lt low) ∙ same ∙ mod-eq_of_lt (value-below G.q P.prime-q f 0)
 
-  pub secret-opens : opening_in S vs (secret_of S f) ≡ value tt
+  pub secret-opens : opening_in S vs (secret_of S f) ≡ Ok tt
   unfolding opening_in opening_equation is_opening
   secret-opens =
       let u : ℕ = secret_of S f in

@@ -7,7 +7,7 @@ use Prim.Native.Nat.{ℕ, zero, suc, ◌-◌, ◌≤◌, ◌<◌}
 use native.Mathlib.Omega.{arith}
 use borrow.Author.Tests.{eq-eqb, ne_eqb, leb-true, le-leb, lt-leb}
 use lib.Dec.{leb, eqb}
-use Rattle.words.specs.Checks.{Check, value, outcome, is_value, if_met}
+use Rattle.words.specs.Checks.{Check, outcome, if_met}
 use Rattle.words.proofs.Tests.{and-true, true-and, false-true}
 use Rattle.words.proofs.Checks.{not-value}
 use Rattle.group.specs.Power.{pow}
@@ -26,6 +26,7 @@ use Rattle.sharing.proofs.Degree.{passes-exactly}
 use Rattle.sharing.proofs.Carried.{sums-carried, carried-commitments, carried-pass}
 use Rattle.sharing.proofs.Secret.{shares-recover, secret-opens, opens-secret}
 use Rattle.sharing.proofs.Place.{unit-polynomial, carried-or-one}
+use Rattle.std.specs.Prelude.{Ok, is_ok}
 
 -- the exponents of commitments to the base g
 logarithms : (S : Setting) → ProperSetting S → (vs : List ℕ) → Commitments S vs
@@ -55,7 +56,7 @@ carried-exactly S Y vs C =
     let e = logarithms S Y vs C in (
       λ c k h. carried-pass S Y c.0 vs c.1 (unit_of S k) (unit-polynomial S Y k),
       λ pass.
-          ⊎_elim (λ c. c) (λ o. absurd (not-value (ap is_value o.unit-refused) (pass (place S vs) o.within)))
+          ⊎_elim (λ c. c) (λ o. absurd (not-value (ap is_ok o.unit-refused) (pass (place S vs) o.within)))
           (carried-or-one S Y vs e.0 C e.1),
     )
 
@@ -65,7 +66,7 @@ opening-exactly S Y f vs K u = (opens-secret S Y f vs K u, λ e. ap (opening_in 
 pub quorum-recovers : QuorumRecovers
 quorum-recovers S Y f vs K ms ss Q T =
     let r = shares-recover S Y f K.polynomial ms ss Q T in
-    (r, λ u e. r ∙ ap (λ s. value (record { 0 = pow S.group.p S.group.h.0 s })) (sym (opens-secret S Y f vs K u e)))
+    (r, λ u e. r ∙ ap (λ s. Ok (record { 0 = pow S.group.p S.group.h.0 s })) (sym (opens-secret S Y f vs K u e)))
 
 pub secret-of-commitments : SecretOfCommitments
 secret-of-commitments S Y f₁ f₂ vs K L = opens-secret S Y f₂ vs L (secret_of S f₁) (secret-opens S Y f₁ vs K)

@@ -1,7 +1,6 @@
 -- What the degree check, the opening and recovery answer: in a setting, and over a table and a round, whose own checks come first.
 use Rattle.std.specs.Prelude.{Bool, ◌&&◌, List, [], ◌∷◌, ◌++◌, ℕ, ◌-◌, leb, eqb, length, take}
 use Rattle.words.specs.Lists.{map, all, none_twice}
-use Rattle.words.specs.Numbers.{bad_length, no_element, no_exponent, no_member, degree_fails, wrong_opening}
 use Rattle.words.specs.Checks.{Check, ◌unless◌, Outcome, outcome}
 use Rattle.group.specs.Power.{pow}
 use Rattle.group.specs.Element.{is_element, is_exponent}
@@ -11,6 +10,7 @@ use Rattle.sharing.specs.Setting.{judged, is_member, members}
 use Rattle.sharing.specs.Weights.{weights_of, lagrange_at, powers_product}
 use Rattle.sharing.specs.declared.Round.{Round}
 use Rattle.sharing.specs.declared.Setting.{Setting}
+use Rattle.words.specs.declared.refusal.Refusal.TheVariants.{BadLength, NoElement, NoExponent, NoMember, DegreeFails, WrongOpening}
 
 -- ---- degree check
 -- the product of the commitments to their weights
@@ -20,13 +20,13 @@ degree_product S vs ds = powers_product S.group.p vs (weights_of S ds)
 -- n commitments in the group, and a check polynomial of n - t coefficients below q
 unfoldable pub degree_figures : Setting → List ℕ → List ℕ → List Check
 degree_figures S vs ds =
-    bad_length unless (eqb (length vs) S.n && eqb (length ds) (S.n - S.t))
-    ∷ no_element unless all (is_element S.group) vs
-    ∷ no_exponent unless all (is_exponent S.group) ds
+    BadLength unless (eqb (length vs) S.n && eqb (length ds) (S.n - S.t))
+    ∷ NoElement unless all (is_element S.group) vs
+    ∷ NoExponent unless all (is_exponent S.group) ds
     ∷ []
 
 unfoldable pub degree_equation : Setting → List ℕ → List ℕ → List Check
-degree_equation S vs ds = degree_fails unless eqb (degree_product S vs ds) 1 ∷ []
+degree_equation S vs ds = DegreeFails unless eqb (degree_product S vs ds) 1 ∷ []
 
 abbrev pub degree_checks : Setting → List ℕ → List ℕ → List Check
 degree_checks S vs ds = degree_figures S vs ds ++ degree_equation S vs ds
@@ -48,9 +48,9 @@ is_quorum S ms = leb S.t (length ms) && (all (is_member S.n) ms && none_twice ms
 
 abbrev pub recovery_checks : Setting → List ℕ → List ℕ → List Check
 recovery_checks S ms ss =
-    bad_length unless eqb (length ms) (length ss)
-    ∷ no_member unless is_quorum S ms
-    ∷ no_element unless all (is_element S.group) ss
+    BadLength unless eqb (length ms) (length ss)
+    ∷ NoMember unless is_quorum S ms
+    ∷ NoElement unless all (is_element S.group) ss
     ∷ []
 
 unfoldable pub recovery_in : Setting → List ℕ → List ℕ → Outcome Element
@@ -67,13 +67,13 @@ is_opening S vs u = eqb (pow S.group.p S.group.g.0 u) (recovered S.group (member
 -- n commitments in the group, and an exponent
 unfoldable pub opening_figures : Setting → List ℕ → ℕ → List Check
 opening_figures S vs u =
-    bad_length unless eqb (length vs) S.n
-    ∷ no_element unless all (is_element S.group) vs
-    ∷ no_exponent unless is_exponent S.group u
+    BadLength unless eqb (length vs) S.n
+    ∷ NoElement unless all (is_element S.group) vs
+    ∷ NoExponent unless is_exponent S.group u
     ∷ []
 
 unfoldable pub opening_equation : Setting → List ℕ → ℕ → List Check
-opening_equation S vs u = wrong_opening unless is_opening S vs u ∷ []
+opening_equation S vs u = WrongOpening unless is_opening S vs u ∷ []
 
 abbrev pub opening_checks : Setting → List ℕ → ℕ → List Check
 opening_checks S vs u = opening_figures S vs u ++ opening_equation S vs u

@@ -1,8 +1,7 @@
 -- Commitments that a polynomial carries, true shares, and the place that commitments fix.
-use Rattle.std.specs.Prelude.{◌≡◌, Bool, true, List, [], ◌∷◌, ℕ, zero, suc, ◌-◌, ◌≤◌, length, get_or, replicate}
+use Rattle.std.specs.Prelude.{◌≡◌, Bool, true, List, [], ◌∷◌, ℕ, zero, suc, ◌-◌, ◌≤◌, length, get_or, replicate, Ok, is_ok}
 use Rattle.words.specs.Choice.{pick}
 use Rattle.words.specs.Lists.{All, Distinct, Below, map, all, up_from}
-use Rattle.words.specs.Checks.{value, is_value}
 use Rattle.field.specs.Residue.{residue_ops}
 use Rattle.field.specs.Polynomial.{value_at, divided, scaled}
 use Rattle.group.specs.Power.{pow}
@@ -52,7 +51,7 @@ pub record CheckPolynomial (S : Setting) (ds : List ℕ) : Type 0 where
   pub low : Below S.group.q ds
 
 abbrev pub Passes : Setting → List ℕ → List ℕ → Type 0
-Passes S vs ds = degree_in S vs ds ≡ value tt
+Passes S vs ds = degree_in S vs ds ≡ Ok tt
 
 -- 1 at place k and 0 at the others of m places
 abbrev pub unit_at : ℕ → ℕ → List ℕ
@@ -71,7 +70,7 @@ lowest test k (suc m) = pick (test k) (lowest test (suc k) m) k
 
 -- the place that the commitments fix: the lowest whose unit does not pass
 unfoldable pub place : Setting → List ℕ → ℕ
-place S vs = lowest (λ k. is_value (degree_in S vs (unit_of S k))) 0 (S.n - S.t)
+place S vs = lowest (λ k. is_ok (degree_in S vs (unit_of S k))) 0 (S.n - S.t)
 
 -- the two lists differ at most at place k
 abbrev pub AgreeOff : ℕ → List ℕ → List ℕ → Type 0

@@ -2,9 +2,9 @@
 -- operations' answers, for every proper setting. RoundBySetting reads them off for the tables and rounds whose checks
 -- do not refuse. Then what is claimed of a round's two numbers, where they do not enter and the rule that they give, of the table, and of
 -- sums of polynomials.
-use Rattle.std.specs.Prelude.{◌≡◌, true, false, List, ◌↔◌, ℕ, ◌-◌, ◌≤◌, ◌<◌, get_or}
+use Rattle.std.specs.Prelude.{◌≡◌, true, false, List, ◌↔◌, ℕ, ◌-◌, ◌≤◌, ◌<◌, get_or, Ok, Err}
 use Rattle.words.specs.Lists.{All, Below, map}
-use Rattle.words.specs.Checks.{Check, value, refused, Met}
+use Rattle.words.specs.Checks.{Check, Met}
 use Rattle.field.specs.Residue.{residue_ops}
 use Rattle.field.specs.Polynomial.{value_at, dot}
 use Rattle.group.specs.Power.{pow}
@@ -17,6 +17,7 @@ use Rattle.sharing.specs.Carried.{Polynomial, Carries, Commitments, Quorum, True
 use Rattle.sharing.specs.Sum.{product_of, sum_of}
 use Rattle.sharing.specs.declared.Round.{Round}
 use Rattle.sharing.specs.declared.Setting.{Setting}
+use Rattle.words.specs.declared.refusal.Refusal.TheVariants.{DegreeFails}
 
 -- the degree check is a linear form in the check polynomial: with es the exponents of the commitments to the base g, the check
 -- polynomial ds passes exactly if the sum of ds_k times the k-th sum is 0 modulo q
@@ -36,7 +37,7 @@ AlwaysCarried =
 -- the commitments alone, lets at most one of its q values pass, whatever stands in the other places.
 pub record OneValue (S : Setting) (vs : List ℕ) : Type 0 where
   pub within : place S vs < S.n - S.t
-  pub unit-refused : degree_in S vs (unit_of S (place S vs)) ≡ refused 9
+  pub unit-refused : degree_in S vs (unit_of S (place S vs)) ≡ Err DegreeFails
   pub lower-pass : (k : ℕ) → k < place S vs → Passes S vs (unit_of S k)
   pub one_value : (ds₁ ds₂ : List ℕ) → Passes S vs ds₁ → Passes S vs ds₂ → AgreeOff (place S vs) ds₁ ds₂
       → get_or ds₁ (place S vs) 0 ≡ get_or ds₂ (place S vs) 0
@@ -62,15 +63,15 @@ CarriedExactly =
 abbrev pub OpeningExactly : Type 0
 OpeningExactly =
     (S : Setting) → ProperSetting S → (f vs : List ℕ) → Carries S f vs → (u : ℕ)
-    → (opening_in S vs u ≡ value tt) ↔ (u ≡ secret_of S f)
+    → (opening_in S vs u ≡ Ok tt) ↔ (u ≡ secret_of S f)
 
 -- E. Every list of t or more different members, in whatever order, with shares true to the polynomial, recovers h^s, the secret
 -- that the accepted opening gives.
 abbrev pub QuorumRecovers : Type 0
 QuorumRecovers =
     (S : Setting) → ProperSetting S → (f vs : List ℕ) → Carries S f vs → (ms ss : List ℕ) → Quorum S ms → TrueShares S f ms ss
-    → (recovery_in S ms ss ≡ value (record { 0 = pow S.group.p S.group.h.0 (secret_of S f) }))
-    × ((u : ℕ) → opening_in S vs u ≡ value tt → recovery_in S ms ss ≡ value (record { 0 = pow S.group.p S.group.h.0 u }))
+    → (recovery_in S ms ss ≡ Ok (record { 0 = pow S.group.p S.group.h.0 (secret_of S f) }))
+    × ((u : ℕ) → opening_in S vs u ≡ Ok tt → recovery_in S ms ss ≡ Ok (record { 0 = pow S.group.p S.group.h.0 u }))
 
 -- The secret is the commitments' alone: two polynomials that carry the same commitments have the same value at 0.
 abbrev pub SecretOfCommitments : Type 0

@@ -1,15 +1,13 @@
 -- A table of groups and a round's figures as they are lent, the checks by which operations over a round begin, and the setting that they leave.
 use Rattle.std.specs.Prelude.{◌≡◌, Bool, not, ◌&&◌, List, [], ◌∷◌, ◌++◌, ℕ, ◌^◌, ◌≤◌, ◌<◌, leb, ltb, eqb}
 use Rattle.words.specs.Lists.{up_from}
-use Rattle.words.specs.Numbers.{unknown_group, out_of_range}
-use Rattle.words.specs.Checks.{Check, ◌unless◌, Outcome, value, refused, outcome, if_met}
+use Rattle.words.specs.Checks.{Check, ◌unless◌, Outcome, outcome, if_met}
 use Rattle.group.specs.Table.{groups_of, table_checks, is_group, group_of}
 use Rattle.group.specs.Element.{Proper}
 use Rattle.group.specs.declared.Group.{Group}
 use Rattle.sharing.specs.declared.Round.{Round}
 use Rattle.sharing.specs.declared.Setting.{Setting}
-use Rattle.sharing.specs.declared.SettingAnswer.{SettingAnswer}
-use Rattle.sharing.specs.declared.SettingAnswer.TheVariants.{Value, Refused}
+use Rattle.words.specs.declared.refusal.Refusal.TheVariants.{UnknownGroup, OutOfRange}
 
 -- all that is asked of a setting: a proper group whose figures fit a word, a number that fits a byte, n from 1 to 31 and below q,
 -- t from 1 to n. Any round's number is proper, and either rule
@@ -58,15 +56,11 @@ in_range q n t = leb 1 n && (leb n 31 && (ltb n q && (leb 1 t && leb t n)))
 
 -- a round among the groups of an accepted table
 unfoldable pub round_figures : List Group → Round → List Check
-round_figures Gs R = unknown_group unless is_group Gs R.group ∷ out_of_range unless in_range (group_of Gs R.group).q R.n R.t ∷ []
+round_figures Gs R = UnknownGroup unless is_group Gs R.group ∷ OutOfRange unless in_range (group_of Gs R.group).q R.n R.t ∷ []
 
 -- the table comes first
 unfoldable pub round_checks : List ℕ → Round → List Check
 round_checks T R = table_checks T ++ round_figures (groups_of T) R
-
-abbrev pub setting_outcome_of : SettingAnswer → Outcome Setting
-setting_outcome_of (Value S) = value S
-setting_outcome_of (Refused k) = refused k
 
 -- of an accepted table, and of any
 unfoldable pub figures_outcome : List ℕ → Round → Outcome Setting

@@ -1,10 +1,10 @@
 // The setting that a table and a round's figures give.
 ghost use Rattle.std.specs.Prelude.{◌≡◌};
-ghost use Rattle.sharing.specs.Setting.{takes_whole, in_range, setting_outcome_of, figures_outcome, setting_outcome};
+ghost use Rattle.sharing.specs.Setting.{takes_whole, in_range, figures_outcome, setting_outcome};
 
-use crate::{Round, Setting, SettingAnswer};
-use group::{GroupAnswer, group_in, table_refusal};
-use words::refusal;
+use crate::{Round, Setting};
+use group::{group_in, check_table};
+use words::Refusal;
 
 // n from 1 to 31 and below q, t from 1 to n
 fn in_range(q: u32, n: u32, t: u32) -> bool
@@ -37,16 +37,16 @@ fn takes_whole(first: u32, round: u32) -> bool
 
 // Judges a round's figures, and answers the setting. Refused: 1 no group of that number; 2 n or t outside its range.
 // Internal: callers have judged the table.
-pub fn setting_in(table: &[u8], rd: Round) -> SettingAnswer
-    ensures { setting_outcome_of result ≡ figures_outcome table.now rd }
+pub fn setting_in(table: &[u8], rd: Round) -> Result<Setting, Refusal>
+    ensures { result ≡ figures_outcome table.now rd }
 {
-    let GroupAnswer::Value(gr) = group_in(table, rd.group) else {
-        return SettingAnswer::Refused(refusal::UNKNOWN_GROUP);
+    let Ok(gr) = group_in(table, rd.group) else {
+        return Err(Refusal::UnknownGroup);
     };
     if !in_range(gr.q, rd.n, rd.t) {
-        return SettingAnswer::Refused(refusal::OUT_OF_RANGE);
+        return Err(Refusal::OutOfRange);
     }
-    SettingAnswer::Value(Setting {
+    Ok(Setting {
         group: gr,
         number: rd.group,
         n: rd.n,
@@ -56,14 +56,11 @@ pub fn setting_in(table: &[u8], rd: Round) -> SettingAnswer
     })
 }
 
-// Judges the table and a round's figures, and answers the setting. Refused: 3, 4, 20 and 21 the table, as table_refusal; 1 no group of that
+// Judges the table and a round's figures, and answers the setting. Refused: 3, 4, 20 and 21 the table, as check_table; 1 no group of that
 // number; 2 n or t outside its range.
-pub fn setting_of(table: &[u8], rd: Round) -> SettingAnswer
-    ensures { setting_outcome_of result ≡ setting_outcome table.now rd }
+pub fn setting_of(table: &[u8], rd: Round) -> Result<Setting, Refusal>
+    ensures { result ≡ setting_outcome table.now rd }
 {
-    let refused = table_refusal(table);
-    if refused != 0 {
-        return SettingAnswer::Refused(refused);
-    }
+    check_table(table)?;
     setting_in(table, rd)
 }

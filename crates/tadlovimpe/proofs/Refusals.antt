@@ -6,7 +6,7 @@ use Prim.Native.Nat.{ℕ, ◌<◌}
 use native.Mathlib.Omega.{arith}
 use lib.ListN.{length}
 use Rattle.words.specs.Lists.{map}
-use Rattle.words.specs.Checks.{Check, Outcome, value, refused, outcome, FirstUnmet, Numbered}
+use Rattle.words.specs.Checks.{Check, Outcome, outcome, FirstUnmet}
 use Rattle.words.proofs.Lists.{All-append}
 use Rattle.words.proofs.Checks.{decided, first-numbered, value-exactly, refused-exactly}
 use Rattle.group.specs.Table.{groups_of, table_checks}
@@ -21,19 +21,20 @@ use Rattle.rulings.specs.Ruling.{refused_board}
 use Rattle.rulings.proofs.Reached.{unmet-judged}
 use Rattle.tadlovimpe.specs.Figures.{answer_of, part_of, place_of}
 use Rattle.tadlovimpe.specs.Claims.{AnswerRefused, PartRefused, PartExactly, BoardRefused, BoardUnmet}
+use Rattle.std.specs.Prelude.{Ok, Err}
 
 -- ---- by cases on the outcome
 pub answer-refused : AnswerRefused
-answer-refused (value v) n = absurd (n refl)
-answer-refused (refused k) n = refl
+answer-refused (Ok v) n = absurd (n refl)
+answer-refused (Err k) n = refl
 
 pub part-refused : PartRefused
 part-refused T R d b = by-outcome (lines_outcome T R d b) (lines_at T R d b) (length (lines_part T R d b))
   where
     by-outcome : (o : Outcome (Unit {0})) (start bytes : ℕ) → ((part_of o start bytes).refusal ≡ 0 → ⊥)
         → ((part_of o start bytes).start ≡ 0) × ((part_of o start bytes).length ≡ 0)
-    by-outcome (value _) start bytes n = absurd (n refl)
-    by-outcome (refused k) start bytes n = (refl, refl)
+    by-outcome (Ok _) start bytes n = absurd (n refl)
+    by-outcome (Err k) start bytes n = (refl, refl)
 
 pub board-refused : BoardRefused
 board-refused J T R b = answer-refused (draw_outcome J T R b)
@@ -55,7 +56,7 @@ all-numbered T R d b =
     (omega arith, form-numbered (setting_in T R) b)
 
 -- the number of an outcome by checks that have none with the number 0
-zero-met : (cs : List Check) (start bytes : ℕ) → Numbered cs → (part_of (outcome cs tt) start bytes).refusal ≡ 0 → outcome cs (tt {0}) ≡ value tt
+zero-met : (cs : List Check) (start bytes : ℕ) → Numbered cs → (part_of (outcome cs tt) start bytes).refusal ≡ 0 → outcome cs (tt {0}) ≡ Ok tt
 zero-met cs start bytes n e = ⊎_elim (value-exactly (Unit {0}) cs tt).1 (λ u. absurd (unmet u.0 u.1)) (decided cs)
   where
     unmet : (k : ℕ) → FirstUnmet k cs → ⊥

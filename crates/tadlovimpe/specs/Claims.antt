@@ -1,7 +1,7 @@
 -- What is claimed of the answers that have more than one figure: on a refusal the others are 0, but for the count and the verdicts of a
 -- board that was judged. The proofs are in proofs/Refusals.antt.
-use Rattle.std.specs.Prelude.{◌≡◌, List, ◌++◌, ◌↔◌, ℕ, replicate}
-use Rattle.words.specs.Checks.{Outcome, value, FirstUnmet}
+use Rattle.std.specs.Prelude.{◌≡◌, List, ◌++◌, ◌↔◌, ℕ, replicate, Ok}
+use Rattle.words.specs.Checks.{Outcome, FirstUnmet}
 use Rattle.group.specs.declared.Element.{Element}
 use Rattle.sharing.specs.Setting.{setting_in, round_checks}
 use Rattle.sharing.specs.declared.Round.{Round}
@@ -22,7 +22,7 @@ PartRefused =
 
 -- the number alone tells: a part with the number 0 is the dealer's lines, even where it has no bytes
 abbrev pub PartExactly : Type 0
-PartExactly = (T : List ℕ) (R : Round) (d : ℕ) (b : List ℕ) → ((part_on T R d b).refusal ≡ 0) ↔ (lines_outcome T R d b ≡ value tt)
+PartExactly = (T : List ℕ) (R : Round) (d : ℕ) (b : List ℕ) → ((part_on T R d b).refusal ≡ 0) ↔ (lines_outcome T R d b ≡ Ok tt)
 
 -- ---- a board: what tadlovimpe_judge_board answers
 -- whatever refuses, there is no draw value

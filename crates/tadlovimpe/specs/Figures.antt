@@ -1,7 +1,7 @@
 -- The operations' answers as the figures that a caller is handed, and figures as the operations take them.
-use Rattle.std.specs.Prelude.{List, ℕ, length}
+use Rattle.std.specs.Prelude.{List, ℕ, length, Ok, Err}
 use Rattle.words.specs.Lists.{map}
-use Rattle.words.specs.Checks.{Outcome, value, refused}
+use Rattle.words.specs.Checks.{Outcome}
 use Rattle.group.specs.declared.Element.{Element}
 use Rattle.group.specs.declared.Exponent.{Exponent}
 use Rattle.sharing.specs.declared.Round.{Round}
@@ -43,12 +43,12 @@ equality_of P =
 -- ---- answers as figures
 -- the number of a refusal, 0 where there is none
 abbrev pub number_of : {A : Type 0} → Outcome A → ℕ
-number_of (value a) = 0
-number_of (refused k) = k
+number_of (Ok a) = 0
+number_of (Err k) = k
 
 abbrev pub answer_of : Outcome Element → Answer
-answer_of (value v) = record { refusal = 0; value = v.0 }
-answer_of (refused k) = record { refusal = k; value = 0 }
+answer_of (Ok v) = record { refusal = 0; value = v.0 }
+answer_of (Err k) = record { refusal = k; value = 0 }
 
 abbrev pub verdict_of : Verdict → VerdictFigures
 verdict_of None = record { kind = 0; value = 0 }
@@ -62,8 +62,8 @@ place_of p = verdict_of p.verdict
 
 -- a dealer's lines: how many bytes behind the board's start they begin, and how many bytes they are
 abbrev pub part_of : Outcome (Unit {0}) → ℕ → ℕ → Part
-part_of (value _) start bytes = record { refusal = 0; start = start; length = bytes }
-part_of (refused k) start bytes = record { refusal = k; start = 0; length = 0 }
+part_of (Ok _) start bytes = record { refusal = 0; start = start; length = bytes }
+part_of (Err k) start bytes = record { refusal = k; start = 0; length = 0 }
 
 -- the lines of dealer d on the board b
 abbrev pub part_on : List ℕ → Round → ℕ → List ℕ → Part

@@ -1,21 +1,17 @@
 // The operations' answers as figures.
 ghost use Rattle.std.specs.Prelude.{◌≡◌};
 ghost use Rattle.words.specs.Lists.{map};
-ghost use Rattle.words.specs.Checks.{check_outcome_of};
-ghost use Rattle.group.specs.Answer.{element_outcome_of};
 ghost use Rattle.tadlovimpe.specs.Figures.{number_of, answer_of, verdict_of, place_of};
 
 use crate::{Answer, VerdictFigures};
-use group::ElementAnswer;
 use verdicts::{DealerVerdict, Secret, Verdict};
-use words::CheckAnswer;
 
 pub(crate) fn number_of(a: CheckAnswer) -> u32
     ensures { result ≡ number_of (check_outcome_of a) }
 {
     match a {
-        CheckAnswer::Passed => 0,
-        CheckAnswer::Refused(k) => k,
+        Ok(()) => 0,
+        Err(k) => k,
     }
 }
 
@@ -23,11 +19,11 @@ pub(crate) fn answer_of(a: ElementAnswer) -> Answer
     ensures { result ≡ answer_of (element_outcome_of a) }
 {
     match a {
-        ElementAnswer::Value(v) => Answer {
+        Ok(v) => Answer {
             refusal: 0,
             value: v.0,
         },
-        ElementAnswer::Refused(k) => Answer {
+        Err(k) => Answer {
             refusal: k,
             value: 0,
         },

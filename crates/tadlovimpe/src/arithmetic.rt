@@ -12,7 +12,6 @@ use crate::answers::{answer_of, number_of};
 use crate::{Answer, Proof};
 use equality::Equality;
 use group::{Element, Exponent};
-use sha256::DigestAnswer;
 
 // sha256::digest. `out` is kept where something is refused.
 #[unsafe(no_mangle)]
@@ -21,11 +20,11 @@ pub extern "C" fn tadlovimpe_digest(message: &[u8], out: &mut [u8; 32]) -> u32
     ensures out_after { out.new ≡ if_met (digest_checks message.now) (record_bytes (hash_value message.now)) out.old }
 {
     match sha256::digest(message) {
-        DigestAnswer::Value(d) => {
+        Ok(d) => {
             words::write_record(out, d);
             0
         }
-        DigestAnswer::Refused(k) => k,
+        Err(k) => k,
     }
 }
 

@@ -10,7 +10,6 @@ use crate::{BoardAnswer, Part};
 use board::{lines_check, lines_of, place_of};
 use records::LINE;
 use sharing::Round;
-use words::CheckAnswer;
 
 // board::lines_check
 #[unsafe(no_mangle)]
@@ -36,12 +35,12 @@ pub extern "C" fn tadlovimpe_dealer_lines(
     ensures { result ≡ part_on table.now round dealer board.now }
 {
     match lines_check(table, round, dealer, board) {
-        CheckAnswer::Refused(k) => Part {
+        Err(k) => Part {
             refusal: k,
             start: 0,
             length: 0,
         },
-        CheckAnswer::Passed => {
+        Ok(()) => {
             let start = 32 * place_of(board, LINE, dealer, 0);
             let part = lines_of(board, dealer);
             Part {

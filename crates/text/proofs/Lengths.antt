@@ -4,7 +4,7 @@ use mathlib.Core.List.{List, [], ◌∷◌, ◌++◌}
 use Prim.Native.Nat.{ℕ, suc, ◌+◌, ◌*◌, ◌≤◌, ◌<◌}
 use native.Mathlib.Omega.{arith}
 use lib.ListN.{length, drop, length-append}
-use Rattle.words.specs.Checks.{Check, Outcome, value, refused, outcome}
+use Rattle.words.specs.Checks.{Check, Outcome, outcome}
 use Rattle.words.proofs.Lists.{map-length, up-length}
 use Rattle.words.proofs.Checks.{value-met}
 use Rattle.group.specs.declared.Element.{Element}
@@ -25,6 +25,7 @@ use Rattle.text.specs.Text.{figure, new_line, dealer_word, opened_word, recovere
 use Rattle.text.specs.Buffer.{Room}
 use Rattle.text.specs.Claims.{TextFits}
 use Rattle.text.proofs.Decimals.{figure-most, short-figure}
+use Rattle.std.specs.Prelude.{Ok, Err}
 
 -- ---- lines
 -- a word and a figure, and a line of them
@@ -71,8 +72,8 @@ unfolding refused_line
 refused-most k = line-most refused_word k
 
 draw-most : (o : Outcome Element) → length (draw_line o) ≤ 19
-draw-most (value v) = omega (arith, line-most draw_word v.0)
-draw-most (refused k) = refused-most k
+draw-most (Ok v) = omega (arith, line-most draw_word v.0)
+draw-most (Err k) = refused-most k
 
 round-most : (S : Setting) → S.n < 100 → S.t < 100 → length (round_line S) ≤ 23
 unfolding round_line
@@ -108,11 +109,11 @@ report-most J S b P =
     )
 
 -- a text that is due where checks are met
-text-most : (o : Outcome (List ℕ)) → ((t : List ℕ) → o ≡ value t → length t ≤ 1024) → length (text_of o) ≤ 1024
-text-most (value t) h = h t refl
-text-most (refused k) h = omega (arith, refused-most k)
+text-most : (o : Outcome (List ℕ)) → ((t : List ℕ) → o ≡ Ok t → length t ≤ 1024) → length (text_of o) ≤ 1024
+text-most (Ok t) h = h t refl
+text-most (Err k) h = omega (arith, refused-most k)
 
-outcome-most : (cs : List Check) (a t : List ℕ) → length a ≤ 1024 → outcome cs a ≡ value t → length t ≤ 1024
+outcome-most : (cs : List Check) (a t : List ℕ) → length a ≤ 1024 → outcome cs a ≡ Ok t → length t ≤ 1024
 outcome-most cs a t h e = subst (λ (x : List ℕ). length x ≤ 1024) (value-met cs a t e).1 h
 
 board-most : (J : Judges) (T : List ℕ) (R : Round) (b : List ℕ) → length (board_text J T R b) ≤ 1024

@@ -12,11 +12,9 @@ use Rattle.words.proofs.Lists.{All-to, take-map, map-comp, map_same, up-take, up
 use Rattle.words.proofs.Tests.{pick_true}
 use Rattle.words.proofs.Checks.{decided, value-exactly, refused-exactly}
 use Rattle.words.proofs.Stages.{met-both, rest-outcome, behind-outcome, front-outcome}
-use Rattle.group.specs.Answer.{element_outcome_of}
 use Rattle.group.specs.Table.{groups_of, table_checks}
 use Rattle.sharing.specs.Setting.{setting_in, round_figures, round_checks, judged, members}
 use Rattle.sharing.specs.declared.Setting.{Setting}
-use Rattle.sharing.specs.declared.SettingAnswer.TheVariants.{Value, Refused}
 use Rattle.sharing.proofs.Theorems.{groups-alone}
 use Rattle.board.specs.Board.{board_checks}
 use Rattle.verdicts.specs.Shares.{Judges}
@@ -32,6 +30,7 @@ use Rattle.rulings.proofs.Theorems.{ruling-reached, ruling-settled, ruling-refus
 use Rattle.text.specs.Text.{dealer_lines, refused_line, draw_line, round_line, accepted_line, text_of, report, board_text, draw_text}
 use Rattle.text.specs.Claims.{TextRefused, TableFirst, TextByGroups}
 use Rattle.text.specs.Report.{verdict_at, verdicts_at, report_from}
+use Rattle.std.specs.Prelude.{Ok, Err}
 
 -- the first n of the verdicts in the array
 places-verdicts : (w : ℕ → Verdict) (n : ℕ) → n ≤ 31 → verdicts_at n (verdict_places w n) ≡ map w (members n)
@@ -49,7 +48,7 @@ unfolding report_from report reached_draw draw_in
 report-same J S b A h m a =
     let vs : verdicts_at S.n A.verdicts ≡ verdicts_on J S b =
     ap (verdicts_at S.n) a.verdicts ∙ places-verdicts (verdict_on J S b) S.n h in
-    let e : element_outcome_of A.draw ≡ draw_in J S b =
+    let e : A.draw ≡ draw_in J S b =
     a.draw ∙ rest-outcome (board_checks S b) (draw_checks J S b) m (draw_value J S b) in
     λ j. round_line S ++ (dealer_lines 1 (vs j) ++ (accepted_line (a.accepted j) ++ draw_line (e j)))
 
@@ -83,14 +82,14 @@ text-refused J T s b k u = text-ruled J T s b ∙ unmet-text (ruling_checks T s 
 
 -- ---- the text by the ruling
 module _ (J : Judges) (T s b : List ℕ) (A : Ruling) (I : RulingOf J T s b A) where
-  pub refused-text : {k : ℕ} → A.setting ≡ Refused k → draw_text J T s b ≡ refused_line k
+  pub refused-text : {k : ℕ} → A.setting ≡ Err k → draw_text J T s b ≡ refused_line k
   refused-text {k} f = text-ruled J T s b ∙ unmet-text (ruling_checks T s b) _ k ((ruling-refused J T s b A I k).1 f)
 
-  pub reported-text : {S : Setting} → A.setting ≡ Value S → draw_text J T s b ≡ report_from S A.judgement
+  pub reported-text : {S : Setting} → A.setting ≡ Ok S → draw_text J T s b ≡ report_from S A.judgement
   reported-text {S} f =
       let w = ruling-settled J T s b A I S f in
       text-ruled J T s b
-      ∙ text-passed (ruling_checks T s b) _ ((ruling-reached J T s b A I).1 (f ∙ ap Value w.setting))
+      ∙ text-passed (ruling_checks T s b) _ ((ruling-reached J T s b A I).1 (f ∙ ap Ok w.setting))
       ∙ ap (λ (X : Setting). report J X b) (sym w.setting)
       ∙ sym (report-same J S b A.judgement w.proper.n-most w.reached w.judgement)
 

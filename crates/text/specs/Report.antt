@@ -1,7 +1,6 @@
 -- The report as it is written from the board judge's answer.
 use Rattle.std.specs.Prelude.{List, ◌++◌, ℕ, take}
 use Rattle.words.specs.Lists.{map}
-use Rattle.group.specs.Answer.{element_outcome_of}
 use Rattle.sharing.specs.declared.Setting.{Setting}
 use Rattle.verdicts.specs.declared.Verdict.{Verdict}
 use Rattle.verdicts.specs.declared.DealerVerdict.{DealerVerdict}
@@ -20,4 +19,4 @@ verdicts_at n ws = map verdict_at (take n ws)
 unfoldable pub report_from : Setting → Judgement → List ℕ
 report_from S A =
     round_line S
-    ++ (dealer_lines 1 (verdicts_at S.n A.verdicts) ++ (accepted_line A.accepted ++ draw_line (element_outcome_of A.draw)))
+    ++ (dealer_lines 1 (verdicts_at S.n A.verdicts) ++ (accepted_line A.accepted ++ draw_line (A.draw)))

@@ -1,7 +1,7 @@
 -- What `draw` prints: the one place where the format of its output stands.
-use Rattle.std.specs.Prelude.{List, [], ◌∷◌, ◌++◌, ℕ, zero, suc, ◌+◌, ◌/◌, ◌%◌, ltb}
+use Rattle.std.specs.Prelude.{List, [], ◌∷◌, ◌++◌, ℕ, zero, suc, ◌+◌, ◌/◌, ◌%◌, ltb, Ok, Err}
 use Rattle.words.specs.Choice.{pick}
-use Rattle.words.specs.Checks.{Outcome, value, refused, outcome}
+use Rattle.words.specs.Checks.{Outcome, outcome}
 use Rattle.group.specs.declared.Element.{Element}
 use Rattle.sharing.specs.Setting.{judged}
 use Rattle.sharing.specs.declared.Round.{Round}
@@ -85,8 +85,8 @@ dealer_lines d (v ∷ vs) = dealer_line d v ++ dealer_lines (suc d) vs
 
 -- the last line: the draw value, or a refusal
 abbrev pub draw_line : Outcome Element → List ℕ
-draw_line (value v) = draw_word ++ (figure v.0 ++ new_line)
-draw_line (refused k) = refused_line k
+draw_line (Ok v) = draw_word ++ (figure v.0 ++ new_line)
+draw_line (Err k) = refused_line k
 
 -- the first line: the group's number, n, t
 unfoldable pub round_line : Setting → List ℕ
@@ -99,8 +99,8 @@ accepted_line m = accepted_word ++ (figure m ++ new_line)
 -- ---- the text
 -- of what an operation answers: only the refusal where it refuses
 abbrev pub text_of : Outcome (List ℕ) → List ℕ
-text_of (value t) = t
-text_of (refused k) = refused_line k
+text_of (Ok t) = t
+text_of (Err k) = refused_line k
 
 -- of a board whose verdicts are reached
 unfoldable pub report : Judges → Setting → List ℕ → List ℕ

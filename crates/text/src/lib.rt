@@ -12,7 +12,6 @@ mod report;
 use line::put_line;
 use report::put_report;
 use rulings::judge_files;
-use sharing::SettingAnswer;
 
 // Writes what `draw` prints for the bytes of groups.tab, of round.set and of board.bin at the start of `out`, and answers how many bytes
 // that is. The other bytes of `out` are kept.
@@ -23,7 +22,7 @@ pub fn draw_text(table: &[u8], set: &[u8], board: &[u8], out: &mut [u8; 1024]) -
     let ruling = judge_files(table, set, board);
     let setting = ruling.setting;
     match setting {
-        SettingAnswer::Refused(k) => put_line(out, 0, b"refused", k),
-        SettingAnswer::Value(s) => put_report(out, s, ruling.judgement),
+        Err(k) => put_line(out, 0, b"refused", k),
+        Ok(s) => put_report(out, s, ruling.judgement),
     }
 }

@@ -1,11 +1,9 @@
 // The lines of the text. Each function answers the place behind what it wrote.
 ghost use Rattle.std.specs.Prelude.{◌++◌};
-ghost use Rattle.group.specs.Answer.{element_outcome_of};
 ghost use Rattle.text.specs.Text.{figure, new_line, secret_text, verdict_text, dealer_line, draw_line, round_line};
 ghost use Rattle.text.specs.Buffer.{Room, Written};
 
 use crate::buffer::{put_bytes, put_figure};
-use group::ElementAnswer;
 use sharing::Setting;
 use verdicts::{Secret, Verdict};
 
@@ -75,11 +73,11 @@ pub(crate) fn put_round(out: &mut [u8], at: usize, s: Setting) -> usize
 
 // Writes the last line from `at` on. Internal: callers ensure room for it.
 pub(crate) fn put_draw(out: &mut [u8], at: usize, draw: ElementAnswer) -> usize
-    requires { Room at (draw_line (element_outcome_of draw)) out.old }
-    ensures { Written at (draw_line (element_outcome_of draw)) out.old out.new result }
+    requires { Room at (draw_line (draw)) out.old }
+    ensures { Written at (draw_line (draw)) out.old out.new result }
 {
     match draw {
-        ElementAnswer::Value(v) => put_line(out, at, b"draw", v.0),
-        ElementAnswer::Refused(k) => put_line(out, at, b"refused", k),
+        Ok(v) => put_line(out, at, b"draw", v.0),
+        Err(k) => put_line(out, at, b"refused", k),
     }
 }

@@ -12,7 +12,7 @@ use lib.Seq.{get_or-take}
 use lib.Dec.{eqb}
 use Rattle.words.specs.Choice.{pick}
 use Rattle.words.specs.Lists.{map, all, filled, entry}
-use Rattle.words.specs.Checks.{Outcome, value, refused, is_value, Met}
+use Rattle.words.specs.Checks.{Outcome, Met}
 use Rattle.words.proofs.Lists.{All-to, map-all, map-length, map_same, up-length}
 use Rattle.words.proofs.Tests.{true-all, and-true}
 use Rattle.words.proofs.Checks.{is-value}
@@ -38,6 +38,8 @@ use Rattle.verdicts.specs.Added.{accepted_dealers, multiplied_at, multiplied}
 use Rattle.verdicts.specs.declared.Verdict.{Verdict}
 use Rattle.verdicts.specs.declared.Verdict.TheVariants.{None, Refused, Accepted}
 use Rattle.verdicts.proofs.Turns.{dealers_above, dealers-none, dealers-more, dealers-all}
+use Rattle.std.specs.Prelude.{Ok, Err, is_ok}
+use Rattle.words.specs.declared.refusal.Refusal.TheVariants.{Incomplete}
 
 filled-size : (m : ℕ) (xs : List ℕ) → length xs ≤ m → length (filled m xs) ≡ m
 unfolding filled
@@ -56,10 +58,10 @@ verdict-accepts J S b d h =
     (λ e. ne_eqb (line_count b d) S.n (λ f. omega (arith, eqb-true (line_count b d) 0 e)))
   where
     by_tests : (x y : Bool) (o : Outcome Unit) → (x ≡ true → y ≡ false)
-        → accepts (pick x None (pick y (verdict_from o (secret_by J S b d)) (Refused 12))) ≡ y && is_value o
-    by_tests true y o n = sym (ap (λ (t : Bool). t && is_value o) (n refl))
-    by_tests false true (value u) n = refl
-    by_tests false true (refused k) n = refl
+        → accepts (pick x None (pick y (verdict_from o (secret_by J S b d)) (Refused Incomplete))) ≡ y && is_ok o
+    by_tests true y o n = sym (ap (λ (t : Bool). t && is_ok o) (n refl))
+    by_tests false true (Ok u) n = refl
+    by_tests false true (Err k) n = refl
     by_tests false false o n = refl
 
 -- ---- one dealer's part, by his verdict

@@ -11,16 +11,13 @@ use lib.ListN.{length, take, length-take}
 use lib.Dec.{leb, ltb}
 use Rattle.words.specs.Choice.{pick}
 use Rattle.words.specs.Lists.{Below, map, all, up_from}
-use Rattle.words.specs.Checks.{Outcome, value, refused, is_value}
+use Rattle.words.specs.Checks.{Outcome}
 use Rattle.words.specs.Bytes.{records_in, record_at}
 use Rattle.words.proofs.Lists.{All-to, All-take, map-all, map-length, up-length, filled-front}
 use Rattle.words.proofs.Tests.{true-all, and-true, pick_true, pick-false}
 use Rattle.group.specs.Power.{pow}
-use Rattle.group.specs.Answer.{element_outcome_of}
 use Rattle.group.specs.Element.{is_element, is_exponent}
 use Rattle.group.specs.declared.Element.{Element}
-use Rattle.group.specs.declared.ElementAnswer.{ElementAnswer}
-use Rattle.group.specs.declared.ElementAnswer.TheVariants as answer
 use Rattle.sharing.specs.Setting.{members}
 use Rattle.sharing.specs.Answer.{opening_figures, opening_equation, opening_in, is_opening, recovered}
 use Rattle.sharing.specs.Carried.{Commitments}
@@ -44,6 +41,8 @@ use Rattle.verdicts.specs.Posted.{LinesOn, SharesOn}
 use Rattle.verdicts.specs.Gathered.{held_of, lowest_in}
 use Rattle.verdicts.specs.declared.GatheredShares.{GatheredShares}
 use Rattle.verdicts.specs.declared.Secret.TheVariants.{Opened, Recovered, Stuck}
+use Rattle.std.specs.Prelude.{Ok, Err, is_ok}
+use Rattle.words.specs.declared.refusal.Refusal.TheVariants.{NoExponent, WrongOpening, StillStuck}
 
 few-taken : (t : ℕ) (xs : List ℕ) → length (take t xs) < t → length xs < t
 few-taken t xs h = omega (arith, length-take t xs)
@@ -98,43 +97,43 @@ module _ (J : Judges) {S : Setting} {b : List ℕ} {F : ShareForm} {Ys : List �
     pub found-low : Below S.group.q (take A.count A.members)
     found-low = subst (Below S.group.q) (sym members-are) members-low
 
-    pub found-few : A.count < S.t → refused 13 ≡ from_lowest S b shares
+    pub found-few : A.count < S.t → Err StillStuck ≡ from_lowest S b shares
     unfolding from_lowest
     found-few h = sym (pick-false (leb S.t (length shares)) _ _ (lt-leb _ _ (few-taken S.t shares (omega (arith, count-is)))))
 
     pub found-enough : S.t ≤ A.count → {v : ℕ} → v ≡ recovered S.group (take A.count A.members) (take A.count A.shares)
-        → value (record { 0 = v }) ≡ from_lowest S b shares
+        → Ok (record { 0 = v }) ≡ from_lowest S b shares
     unfolding from_lowest
     found-enough h f =
-        (λ j. value (record { 0 = (f ∙ (λ k. recovered S.group (members-are k) (shares-are k))) j }))
+        (λ j. Ok (record { 0 = (f ∙ (λ k. recovered S.group (members-are k) (shares-are k))) j }))
         ∙ sym (pick_true (leb S.t (length shares)) _ _ (le-leb _ _ (all-taken S.t shares (omega (arith, count-is)))))
 
 -- the same without the name of what is found
 pub few_refused : (J : Judges) {S : Setting} {b : List ℕ} {F : ShareForm} {Ys : List ℕ} → SharesOn S b F Ys → (lowest_in J S b F Ys).count < S.t
-    → from_lowest S b (shares_in J S b F Ys) ≡ refused 13
+    → from_lowest S b (shares_in J S b F Ys) ≡ Err StillStuck
 few_refused J L h = sym (found-few J L refl h)
 
 -- ---- the opening
 -- for n elements its figure and its equation decide
-opening-decided : (S : Setting) (vs : List ℕ) (u : ℕ) → Commitments S vs → is_value (opening_in S vs u) ≡ is_exponent S.group u && is_opening S vs u
+opening-decided : (S : Setting) (vs : List ℕ) (u : ℕ) → Commitments S vs → is_ok (opening_in S vs u) ≡ is_exponent S.group u && is_opening S vs u
 unfolding opening_in opening_figures opening_equation
 opening-decided S vs u C = simp (eq-eqb (length vs) S.n C.size, C.elements) (by-test (is_exponent S.group u) (is_opening S vs u))
   where
-    by-test : (x y : Bool) → is_value {A = Unit {0}} (pick x (pick y (value tt) (refused 11)) (refused 7)) ≡ x && y
+    by-test : (x y : Bool) → is_ok {A = Unit {0}} (pick x (pick y (Ok tt) (Err WrongOpening)) (Err NoExponent)) ≡ x && y
     by-test true true = refl
     by-test true false = refl
     by-test false y = refl
 
 -- the record at this place, where there is one, holds an opening that is accepted for vs
 abbrev pub opened_at : Setting → List ℕ → List ℕ → ℕ → Bool
-opened_at S vs b at = ltb at (records_in b) && is_value (opening_in S vs (u_of (record_at b at)))
+opened_at S vs b at = ltb at (records_in b) && is_ok (opening_in S vs (u_of (record_at b at)))
 
 module _ (S : Setting) (vs : List ℕ) (C : Commitments S vs) (b : List ℕ) (at : ℕ) (h : at < records_in b) {u : ℕ} (e : u ≡ u_of (record_at b at)) where
   told : is_exponent S.group u && is_opening S vs u ≡ opened_at S vs b at
   told =
       (λ j. is_exponent S.group (e j) && is_opening S vs (e j))
       ∙ sym (opening-decided S vs (u_of (record_at b at)) C)
-      ∙ sym (ap (λ (t : Bool). t && is_value (opening_in S vs (u_of (record_at b at)))) (lt-ltb at (records_in b) h))
+      ∙ sym (ap (λ (t : Bool). t && is_ok (opening_in S vs (u_of (record_at b at)))) (lt-ltb at (records_in b) h))
 
   pub opening-high : is_exponent S.group u ≡ false → false ≡ opened_at S vs b at
   opening-high f = sym (ap (λ (t : Bool). t && is_opening S vs u) f) ∙ told
@@ -205,13 +204,13 @@ module _ (S : Setting) (b : List ℕ) (d : ℕ) where
       ∙ sym (pick_true (is_opened S b d) _ (from_shares J S b d) e)
 
   -- by what recovery answers for them
-  module _ {F : ShareForm} (f : F ≡ opened_form d) {Ys : List ℕ} (Y : Ys ≡ encrypted_of S b d) (a : ElementAnswer) (e : element_outcome_of a ≡ from_lowest S b (shares_in judges S b F Ys)) where
-    from_told : (o : Outcome Element) → element_outcome_of a ≡ o → secret_from o ≡ from_shares judges S b d
+  module _ {F : ShareForm} (f : F ≡ opened_form d) {Ys : List ℕ} (Y : Ys ≡ encrypted_of S b d) (a : ElementAnswer) (e : a ≡ from_lowest S b (shares_in judges S b F Ys)) where
+    from_told : (o : Outcome Element) → a ≡ o → secret_from o ≡ from_shares judges S b d
     unfolding from_shares
     from_told o r = ap secret_from (sym r ∙ e ∙ (λ j. from_lowest S b (shares_in judges S b (f j) (Y j))))
 
-    pub from-refused : {k : ℕ} → a ≡ answer.Refused k → Stuck ≡ from_shares judges S b d
-    from-refused {k} r = from_told (refused k) (ap element_outcome_of r)
+    pub from-refused : {k : ℕ} → a ≡ Err k → Stuck ≡ from_shares judges S b d
+    from-refused {k} r = from_told (Err k) (ap r)
 
-    pub from-value : {v : Element} → a ≡ answer.Value v → Recovered v ≡ from_shares judges S b d
-    from-value {v} r = from_told (value v) (ap element_outcome_of r)
+    pub from-value : {v : Element} → a ≡ Ok v → Recovered v ≡ from_shares judges S b d
+    from-value {v} r = from_told (Ok v) (ap r)

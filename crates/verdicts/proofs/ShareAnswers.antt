@@ -11,17 +11,14 @@ use lib.ListN.{take, drop, set, length-drop}
 use lib.Seq.{length-take-le}
 use lib.Dec.{eqb}
 use Rattle.words.specs.Lists.{up_from, entry}
-use Rattle.words.specs.Checks.{Met, value, is_value}
+use Rattle.words.specs.Checks.{Met}
 use Rattle.words.specs.Bytes.{record_in, records_in, record_at}
 use Rattle.words.specs.declared.Record.{Record}
 use Rattle.words.proofs.Tests.{all_true, and-true, pick_true, pick-false}
 use Rattle.words.proofs.Checks.{value-met}
 use Rattle.words.proofs.Lists.{entry-all}
-use Rattle.group.specs.Answer.{element_outcome_of}
 use Rattle.group.specs.Element.{is_element}
 use Rattle.group.specs.declared.Element.{Element}
-use Rattle.group.specs.declared.ElementAnswer.{ElementAnswer}
-use Rattle.group.specs.declared.ElementAnswer.TheVariants.{Value, Refused}
 use Rattle.sharing.specs.declared.Setting.{Setting}
 use Rattle.records.specs.Layout.{is_share_record, dealer_of, member_of, y_of, Z_of}
 use Rattle.share.specs.Share.{judge_share_checks, judge_share_figures_in, judge_share_in}
@@ -40,6 +37,7 @@ use Rattle.verdicts.specs.Shares.{Judges, judges, share_answer, is_share_in, sha
 use Rattle.verdicts.specs.Posted.{SharesOn, ShareOf}
 use Rattle.verdicts.specs.Gathered.{with_share}
 use Rattle.verdicts.specs.declared.GatheredShares.{GatheredShares}
+use Rattle.std.specs.Prelude.{Ok, Err, is_ok}
 
 module _ (J : Judges) (S : Setting) (b : List ℕ) (F : ShareForm) (Ys : List ℕ) (i : ℕ) where
   pub share-address : is_share_in J S b F Ys i ≡ true → ((record_at b i).w0 ≡ F.kind) × (dealer_of (record_at b i) ≡ F.dealer)
@@ -48,14 +46,14 @@ module _ (J : Judges) (S : Setting) (b : List ℕ) (F : ShareForm) (Ys : List �
       let s = and-true (eqb (record_at b i).w0 F.kind) _ e in
       (eqb-true (record_at b i).w0 F.kind s.0, eqb-true (dealer_of (record_at b i)) F.dealer (and-true (eqb (dealer_of (record_at b i)) F.dealer) _ s.1).0)
 
-  share-told : ShareOf b F i → is_share_in J S b F Ys i ≡ is_value (share_answer J S b F Ys i)
+  share-told : ShareOf b F i → is_share_in J S b F Ys i ≡ is_ok (share_answer J S b F Ys i)
   unfolding is_share_in
   share-told s =
       let k = eq-eqb (record_at b i).w0 F.kind s.kind in
       let e = eq-eqb (dealer_of (record_at b i)) F.dealer s.dealer in
-      λ j. k j && (e j && is_value (share_answer J S b F Ys i))
+      λ j. k j && (e j && is_ok (share_answer J S b F Ys i))
 
-share-value : (S : Setting) (b : List ℕ) (F : ShareForm) (Ys : List ℕ) (i : ℕ) (Z : Element) → share_answer judges S b F Ys i ≡ value Z → Z.0 ≡ Z_of (record_at b i)
+share-value : (S : Setting) (b : List ℕ) (F : ShareForm) (Ys : List ℕ) (i : ℕ) (Z : Element) → share_answer judges S b F Ys i ≡ Ok Z → Z.0 ≡ Z_of (record_at b i)
 unfolding share_answer judge_share_in record_at
 share-value S b F Ys i Z e =
     let m = member_of (record_at b i) in
@@ -74,19 +72,19 @@ none-of-kind J S b F Ys n =
     (λ i h e. absurd (n i h (share-address J S b F Ys i e).0)))
 
 -- ---- the shares found so far, by the answer on the next record
-module _ (S : Setting) (b : List ℕ) (F : ShareForm) (Ys : List ℕ) (i : ℕ) (H : ShareOf b F i) (A : GatheredShares) {a : ElementAnswer} (e : element_outcome_of a ≡ share_answer judges S b F Ys i) where
-  pub with_none : {k : ℕ} → a ≡ Refused k → A ≡ with_share judges S b F Ys i A
+module _ (S : Setting) (b : List ℕ) (F : ShareForm) (Ys : List ℕ) (i : ℕ) (H : ShareOf b F i) (A : GatheredShares) {a : ElementAnswer} (e : a ≡ share_answer judges S b F Ys i) where
+  pub with_none : {k : ℕ} → a ≡ Err k → A ≡ with_share judges S b F Ys i A
   unfolding with_share
   with_none f =
-      sym (pick-false (is_share_in judges S b F Ys i) _ A (share-told judges S b F Ys i H ∙ ap is_value (sym e ∙ ap element_outcome_of f)))
+      sym (pick-false (is_share_in judges S b F Ys i) _ A (share-told judges S b F Ys i H ∙ ap is_ok (sym e ∙ ap f)))
 
-  pub with-one : {Z : Element} (m : ℕ) → a ≡ Value Z → m ≡ member_of (record_at b i)
+  pub with-one : {Z : Element} (m : ℕ) → a ≡ Ok Z → m ≡ member_of (record_at b i)
       → ◌≡◌ {A = GatheredShares} (record { members = set A.members A.count m; shares = set A.shares A.count Z.0; count = A.count + 1 }) (with_share judges S b F Ys i A)
   unfolding with_share
   with-one {Z} m f h =
-      let v = share-value S b F Ys i Z (sym e ∙ ap element_outcome_of f) in
+      let v = share-value S b F Ys i Z (sym e ∙ ap f) in
       (λ j. record { members = set A.members A.count (h j); shares = set A.shares A.count (v j); count = A.count + 1 })
-      ∙ sym (pick_true (is_share_in judges S b F Ys i) _ A (share-told judges S b F Ys i H ∙ ap is_value (sym e ∙ ap element_outcome_of f)))
+      ∙ sym (pick_true (is_share_in judges S b F Ys i) _ A (share-told judges S b F Ys i H ∙ ap is_ok (sym e ∙ ap f)))
 
 -- ---- on a board with an encrypted share for each member
 module _ {S : Setting} {b : List ℕ} {F : ShareForm} {Ys : List ℕ} (L : SharesOn S b F Ys) where

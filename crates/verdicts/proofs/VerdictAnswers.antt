@@ -7,13 +7,11 @@ use native.Mathlib.Omega.{arith}
 use borrow.Author.Tests.{eq-eqb, ne_eqb}
 use lib.ListN.{length}
 use lib.Dec.{eqb}
-use Rattle.words.specs.Checks.{Outcome, Met, outcome, check_outcome_of}
+use Rattle.words.specs.Checks.{Outcome, Met, outcome}
 use Rattle.words.specs.Bytes.{records_in}
 use Rattle.words.proofs.Lists.{map-length, up-length}
 use Rattle.words.proofs.Tests.{true-and, true-equal, pick_true, pick-false}
 use Rattle.sharing.specs.Setting.{ProperSetting, members}
-use Rattle.words.specs.declared.CheckAnswer.{CheckAnswer}
-use Rattle.words.specs.declared.CheckAnswer.TheVariants as answer-variants
 use Rattle.sharing.specs.declared.Setting.{Setting}
 use Rattle.sharing.proofs.EachMember.{members-exactly}
 use Rattle.lines.specs.Lines.{is_line_for, is_line_of, is_line_of_round, line_checks}
@@ -29,6 +27,8 @@ use Rattle.verdicts.specs.Verdict.{dealing_answer, secret_by, verdict_from, verd
 use Rattle.verdicts.specs.Posted.{LinesOn}
 use Rattle.verdicts.specs.declared.Secret.{Secret}
 use Rattle.verdicts.specs.declared.Verdict.TheVariants.{None, Refused, Accepted}
+use Rattle.std.specs.Prelude.{Ok, Err}
+use Rattle.words.specs.declared.refusal.Refusal.TheVariants.{Incomplete}
 
 module _ (S : Setting) (b : List ℕ) (d : ℕ) (P : ProperSetting S) (m : Met (board_checks S b)) where
   state : Reached S b
@@ -76,7 +76,7 @@ module _ (S : Setting) (b : List ℕ) (d : ℕ) (P : ProperSetting S) (m : Met (
       some-lines : eqb (line_count b d) 0 ≡ false
       some-lines = ne_eqb _ 0 (λ z. s (sym counted ∙ z))
 
-      pub not-all-lines : (k ≡ S.n → ⊥) → Refused 12 ≡ verdict_on judges S b d
+      pub not-all-lines : (k ≡ S.n → ⊥) → Refused Incomplete ≡ verdict_on judges S b d
       unfolding verdict_on
       not-all-lines n =
           sym
@@ -101,12 +101,12 @@ module _ (S : Setting) (b : List ℕ) (d : ℕ) (P : ProperSetting S) (m : Met (
         decided : outcome (line_figure_checks S d ys lines) tt ≡ dealing_answer judges S b d
         decided = figures-decide S d ys lines lines-formed ∙ (λ i. judge_dealing_in S d (y i) (e i))
 
-        module _ {a : CheckAnswer} (j : check_outcome_of a ≡ outcome (line_figure_checks S d ys lines) tt) where
-          pub judge-refuses : {i : ℕ} → a ≡ answer-variants.Refused i → Refused i ≡ verdict_on judges S b d
-          judge-refuses r = told (ap check_outcome_of (sym r) ∙ j ∙ decided)
+        module _ {a : CheckAnswer} (j : a ≡ outcome (line_figure_checks S d ys lines) tt) where
+          pub judge-refuses : {i : ℕ} → a ≡ Err i → Refused i ≡ verdict_on judges S b d
+          judge-refuses r = told (ap (sym r) ∙ j ∙ decided)
 
-          pub all_lines : a ≡ answer-variants.Passed → LinesOn S b d
-          all_lines r = record { proper = P; reached = m; accepted = sym (ap check_outcome_of (sym r) ∙ j ∙ decided) }
+          pub all_lines : a ≡ (Ok tt) → LinesOn S b d
+          all_lines r = record { proper = P; reached = m; accepted = sym (ap (sym r) ∙ j ∙ decided) }
 
-          pub dealing-accepted : a ≡ answer-variants.Passed → {s : Secret} → s ≡ secret_by judges S b d → Accepted s ≡ verdict_on judges S b d
-          dealing-accepted r h = ap Accepted h ∙ told (ap check_outcome_of (sym r) ∙ j ∙ decided)
+          pub dealing-accepted : a ≡ (Ok tt) → {s : Secret} → s ≡ secret_by judges S b d → Accepted s ≡ verdict_on judges S b d
+          dealing-accepted r h = ap Accepted h ∙ told (ap (sym r) ∙ j ∙ decided)

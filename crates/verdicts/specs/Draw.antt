@@ -2,10 +2,8 @@
 use Rattle.std.specs.Prelude.{◌≡◌, Bool, true, false, List, [], ◌∷◌, ◌++◌, ℕ, ◌+◌, length, take, replicate, leb}
 use Rattle.words.specs.Choice.{pick}
 use Rattle.words.specs.Lists.{map, up_from}
-use Rattle.words.specs.Numbers.{still_stuck, too_few}
 use Rattle.words.specs.Checks.{Check, ◌unless◌, Outcome, outcome}
 use Rattle.field.specs.Residue.{mul}
-use Rattle.group.specs.Answer.{element_outcome_of}
 use Rattle.group.specs.declared.Element.{Element}
 use Rattle.sharing.specs.Setting.{judged}
 use Rattle.sharing.specs.declared.Round.{Round}
@@ -20,6 +18,7 @@ use Rattle.verdicts.specs.declared.Verdict.{Verdict}
 use Rattle.verdicts.specs.declared.Verdict.TheVariants.{None, Refused, Accepted}
 use Rattle.verdicts.specs.declared.DealerVerdict.{DealerVerdict}
 use Rattle.verdicts.specs.declared.Judgement.{Judgement}
+use Rattle.words.specs.declared.refusal.Refusal.TheVariants.{StillStuck, TooFew}
 
 -- ---- over the verdicts
 -- 1 for an accepted dealing, stuck or not
@@ -55,7 +54,7 @@ secrets_product p (v ∷ vs) = times_secret p v (secrets_product p vs)
 -- ---- the draw
 -- 14 fewer than t accepted, then 13 a stuck dealing where fewer than t added shares are accepted
 abbrev pub end_checks : ℕ → ℕ → Bool → ℕ → List Check
-end_checks t accepted stuck added = too_few unless leb t accepted ∷ still_stuck unless pick stuck (leb t added) true ∷ []
+end_checks t accepted stuck added = TooFew unless leb t accepted ∷ StillStuck unless pick stuck (leb t added) true ∷ []
 
 abbrev pub draw_checks : Judges → Setting → List ℕ → List Check
 draw_checks J S b = let vs = verdicts_on J S b in end_checks S.t (count_accepted vs) (any_stuck vs) (length (added_by J S b))
@@ -97,4 +96,4 @@ no_verdicts = replicate 31 (record { verdict = None })
 pub record JudgementIn (J : Judges) (S : Setting) (b : List ℕ) (A : Judgement) : Type 0 where
   pub verdicts : A.verdicts ≡ verdict_places (verdict_on J S b) S.n
   pub accepted : A.accepted ≡ count_accepted (verdicts_on J S b)
-  pub draw : element_outcome_of A.draw ≡ reached_draw J S b
+  pub draw : A.draw ≡ reached_draw J S b

@@ -1,7 +1,7 @@
 -- A dealer's accepted lines, and a share and its form, as the functions below a verdict ask for them.
-use Rattle.std.specs.Prelude.{◌≡◌, true, List, ◌⊎◌, ℕ, ◌<◌, length}
+use Rattle.std.specs.Prelude.{◌≡◌, true, List, ◌⊎◌, ℕ, ◌<◌, length, Ok}
 use Rattle.words.specs.Lists.{all}
-use Rattle.words.specs.Checks.{value, Met}
+use Rattle.words.specs.Checks.{Met}
 use Rattle.words.specs.Bytes.{records_in, record_at}
 use Rattle.group.specs.Element.{is_element}
 use Rattle.sharing.specs.Setting.{ProperSetting}
@@ -17,7 +17,7 @@ use Rattle.verdicts.specs.Verdict.{dealing_answer}
 pub record LinesOn (S : Setting) (b : List ℕ) (d : ℕ) : Type 0 where
   pub proper : ProperSetting S
   pub reached : Met (board_checks S b)
-  pub accepted : dealing_answer judges S b d ≡ value tt
+  pub accepted : dealing_answer judges S b d ≡ Ok tt
 
 -- in a proper setting verdicts are reached, the form is one of the two, and there is an element for each member
 pub record SharesOn (S : Setting) (b : List ℕ) (F : ShareForm) (Ys : List ℕ) : Type 0 where

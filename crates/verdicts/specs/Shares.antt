@@ -1,9 +1,8 @@
 -- Accepted shares in a form, and what the t lowest members who have one recover. The judges are a parameter: nothing here depends on how
 -- they work.
-use Rattle.std.specs.Prelude.{Bool, ◌&&◌, List, [], ◌∷◌, ℕ, ◌*◌, length, take, drop, leb, eqb}
+use Rattle.std.specs.Prelude.{Bool, ◌&&◌, List, [], ◌∷◌, ℕ, ◌*◌, length, take, drop, leb, eqb, is_ok}
 use Rattle.words.specs.Lists.{map, up_from, entry}
-use Rattle.words.specs.Numbers.{still_stuck}
-use Rattle.words.specs.Checks.{◌unless◌, Outcome, outcome, is_value}
+use Rattle.words.specs.Checks.{◌unless◌, Outcome, outcome}
 use Rattle.words.specs.Bytes.{records_in, record_at}
 use Rattle.group.specs.declared.Element.{Element}
 use Rattle.group.specs.declared.Group.{Group}
@@ -15,6 +14,7 @@ use Rattle.share.specs.Share.{judge_share_in}
 use Rattle.share.specs.declared.ShareForm.{ShareForm}
 use Rattle.board.specs.Search.{filter}
 use Rattle.board.specs.Board.{key_in}
+use Rattle.words.specs.declared.refusal.Refusal.TheVariants.{StillStuck}
 
 -- the judge of dealings, of setting, dealer, keys and lines; the judge of shares, of setting, form, member, y, Y and record
 pub record Judges : Type 0 where
@@ -35,7 +35,7 @@ share_answer J S b F Ys i =
 -- the record i is an accepted one
 unfoldable pub is_share_in : Judges → Setting → List ℕ → ShareForm → List ℕ → ℕ → Bool
 is_share_in J S b F Ys i =
-    eqb (record_at b i).w0 F.kind && (eqb (dealer_of (record_at b i)) F.dealer && is_value (share_answer J S b F Ys i))
+    eqb (record_at b i).w0 F.kind && (eqb (dealer_of (record_at b i)) F.dealer && is_ok (share_answer J S b F Ys i))
 
 -- the records of the accepted ones, by ascending member
 unfoldable pub shares_in : Judges → Setting → List ℕ → ShareForm → List ℕ → List ℕ
@@ -48,4 +48,4 @@ recovered_from G b is = recovered G (map (λ i. member_of (record_at b i)) is) (
 
 -- from the first t of them, refused by 13 where there are fewer
 unfoldable pub from_lowest : Setting → List ℕ → List ℕ → Outcome Element
-from_lowest S b is = outcome (still_stuck unless leb S.t (length is) ∷ []) (record { 0 = recovered_from S.group b (take S.t is) })
+from_lowest S b is = outcome (StillStuck unless leb S.t (length is) ∷ []) (record { 0 = recovered_from S.group b (take S.t is) })

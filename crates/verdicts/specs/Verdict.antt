@@ -1,8 +1,8 @@
 -- The verdict on each dealer, by the two judges.
-use Rattle.std.specs.Prelude.{Bool, true, false, ◌&&◌, List, ℕ, ltb, eqb}
+use Rattle.std.specs.Prelude.{Bool, true, false, ◌&&◌, List, ℕ, ltb, eqb, Ok, Err, is_ok}
 use Rattle.words.specs.Choice.{pick}
 use Rattle.words.specs.Lists.{map}
-use Rattle.words.specs.Checks.{Outcome, value, refused, is_value}
+use Rattle.words.specs.Checks.{Outcome}
 use Rattle.words.specs.Bytes.{records_in, record_at}
 use Rattle.group.specs.Power.{pow}
 use Rattle.group.specs.declared.Element.{Element}
@@ -18,6 +18,7 @@ use Rattle.verdicts.specs.declared.Secret.{Secret}
 use Rattle.verdicts.specs.declared.Secret.TheVariants.{Opened, Recovered, Stuck}
 use Rattle.verdicts.specs.declared.Verdict.{Verdict}
 use Rattle.verdicts.specs.declared.Verdict.TheVariants.{None, Refused, Accepted}
+use Rattle.words.specs.declared.refusal.Refusal.TheVariants.{Incomplete}
 
 -- ---- one dealer's dealing
 -- what the judge of dealings answers for his lines and the board's keys
@@ -26,7 +27,7 @@ dealing_answer J S b d = J.dealing S d (keys_in S.n b) (lines_of b d)
 
 -- he has n lines that the judge of dealings accepts
 unfoldable pub is_accepted : Judges → Setting → List ℕ → ℕ → Bool
-is_accepted J S b d = eqb (line_count b d) S.n && is_value (dealing_answer J S b d)
+is_accepted J S b d = eqb (line_count b d) S.n && is_ok (dealing_answer J S b d)
 
 -- the commitments in his lines
 abbrev pub commitments_of : Setting → List ℕ → ℕ → List ℕ
@@ -46,8 +47,8 @@ shares_by J S b d = shares_in J S b (opened_form d) (encrypted_of S b d)
 
 -- ---- how the secret of an accepted dealing came
 abbrev pub secret_from : Outcome Element → Secret
-secret_from (value v) = Recovered v
-secret_from (refused k) = Stuck
+secret_from (Ok v) = Recovered v
+secret_from (Err k) = Stuck
 
 -- from the t lowest members with accepted shares, stuck where there are fewer
 unfoldable pub from_shares : Judges → Setting → List ℕ → ℕ → Secret
@@ -57,7 +58,7 @@ from_shares J S b d = secret_from (from_lowest S b (shares_by J S b d))
 unfoldable pub is_opened : Setting → List ℕ → ℕ → Bool
 is_opened S b d =
     ltb (opening_place b d) (records_in b)
-    && is_value (opening_in S (commitments_of S b d) (u_of (record_at b (opening_place b d))))
+    && is_ok (opening_in S (commitments_of S b d) (u_of (record_at b (opening_place b d))))
 
 -- a right opening counts first
 unfoldable pub secret_by : Judges → Setting → List ℕ → ℕ → Secret
@@ -68,13 +69,13 @@ secret_by J S b d =
 
 -- ---- the verdict: none without lines, 12 with some but not n, else what the judge of dealings answers
 abbrev pub verdict_from : Outcome (Unit {0}) → Secret → Verdict
-verdict_from (value u) s = Accepted s
-verdict_from (refused k) s = Refused k
+verdict_from (Ok u) s = Accepted s
+verdict_from (Err k) s = Refused k
 
 unfoldable pub verdict_on : Judges → Setting → List ℕ → ℕ → Verdict
 verdict_on J S b d =
     pick (eqb (line_count b d) 0) None
-    (pick (eqb (line_count b d) S.n) (verdict_from (dealing_answer J S b d) (secret_by J S b d)) (Refused 12))
+    (pick (eqb (line_count b d) S.n) (verdict_from (dealing_answer J S b d) (secret_by J S b d)) (Refused Incomplete))
 
 -- accepted and stuck
 abbrev pub is_stuck : Verdict → Bool

@@ -4,7 +4,6 @@ ghost use Rattle.std.specs.Prelude.{◌≡◌, ◌*◌, ◌<◌, ◌≤◌, leng
 ghost use Rattle.words.specs.Lists.{map, filled, entry};
 ghost use Rattle.words.specs.Checks.{Met};
 ghost use Rattle.field.specs.Residue.{mul};
-ghost use Rattle.group.specs.Answer.{element_outcome_of};
 ghost use Rattle.sharing.specs.Setting.{ProperSetting, members};
 ghost use Rattle.lines.specs.Lines.{Y_in};
 ghost use Rattle.board.specs.Board.{board_checks};
@@ -17,10 +16,10 @@ ghost use Rattle.verdicts.specs.Draw.{verdict_places};
 use crate::shares::from_lowest;
 use crate::{DealerVerdict, MemberProducts, Verdict};
 use board::lines_of;
-use group::{Element, ElementAnswer, Group};
+use group::{Element, Group};
 use share::added_form;
 use sharing::Setting;
-use words::record_at;
+use words::{Refusal, record_at};
 
 // 1 for each of n members, and 0 behind them. Internal: callers ensure at most 31 members.
 fn ones(n: usize) -> MemberProducts
@@ -92,9 +91,9 @@ fn multiplied_shares(s: Setting, b: &[u8], verdicts: [DealerVerdict; 31]) -> Mem
 
 // The draw from the t lowest members with accepted added shares, refused by 13 where there are fewer.
 // Internal: callers ensure that the setting is proper, that verdicts are reached, and that these are the dealers' verdicts.
-pub(crate) fn added_draw(s: Setting, b: &[u8], verdicts: [DealerVerdict; 31]) -> ElementAnswer
+pub(crate) fn added_draw(s: Setting, b: &[u8], verdicts: [DealerVerdict; 31]) -> Result<Element, Refusal>
     requires { (ProperSetting s) × (Met (board_checks s b.now)) × (verdicts ≡ verdict_places (verdict_on judges s b.now) s.n) }
-    ensures { element_outcome_of result ≡ from_lowest s b.now (added_by judges s b.now) }
+    ensures { result ≡ from_lowest s b.now (added_by judges s b.now) }
 {
     let n = s.n as usize;
     let products = multiplied_shares(s, b, verdicts);

@@ -2,7 +2,6 @@
 ghost use Rattle.std.specs.Prelude.{◌≡◌, true, ◌<◌, length, take};
 ghost use Rattle.words.specs.Choice.{pick};
 ghost use Rattle.words.specs.Checks.{Met, outcome};
-ghost use Rattle.group.specs.Answer.{element_outcome_of};
 ghost use Rattle.sharing.specs.Setting.{ProperSetting};
 ghost use Rattle.board.specs.Board.{board_checks};
 ghost use Rattle.verdicts.specs.Shares.{judges, recovered_from};
@@ -14,9 +13,9 @@ use crate::added::added_draw;
 use crate::verdicts::verdict;
 use crate::{DealerVerdict, Judgement, Secret, Verdict};
 use board::board_keys;
-use group::{Element, ElementAnswer, Group};
+use group::{Element, Group};
 use sharing::Setting;
-use words::refusal;
+use words::Refusal;
 
 // 1 for an accepted dealing.
 fn count_one(v: Verdict) -> u32
@@ -78,16 +77,16 @@ fn draw_answer(
     accepted: u32,
     stuck: bool,
     product: Element,
-) -> ElementAnswer
+) -> Result<Element, Refusal>
     requires { (ProperSetting s) × (Met (board_checks s b.now)) × (verdicts ≡ verdict_places (verdict_on judges s b.now) s.n) }
-    ensures { element_outcome_of result ≡ outcome (end_checks s.t accepted stuck (length (added_by judges s b.now)))
+    ensures { result ≡ outcome (end_checks s.t accepted stuck (length (added_by judges s b.now)))
         (pick stuck (record { 0 = recovered_from s.group b.now (take s.t (added_by judges s b.now)) }) product) }
 {
     if accepted < s.t {
-        return ElementAnswer::Refused(refusal::TOO_FEW);
+        return Err(Refusal::TooFew);
     }
     if !stuck {
-        return ElementAnswer::Value(product);
+        return Ok(product);
     }
     added_draw(s, b, verdicts)
 }

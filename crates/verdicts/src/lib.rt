@@ -6,7 +6,7 @@ mod judge;
 mod shares;
 mod verdicts;
 
-use group::{Element, ElementAnswer};
+use group::Element;
 pub use judge::all_verdicts;
 
 // How the secret of an accepted dealing came.

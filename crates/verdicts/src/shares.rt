@@ -1,16 +1,15 @@
 // The accepted shares in a form, opened or added, and what the t lowest members who have one recover.
 ghost use Rattle.std.specs.Prelude.{◌≡◌, ◌<◌};
-ghost use Rattle.group.specs.Answer.{element_outcome_of};
 ghost use Rattle.verdicts.specs.Shares.{judges, share_answer, shares_in, from_lowest};
 ghost use Rattle.verdicts.specs.Posted.{SharesOn, ShareOf};
 ghost use Rattle.verdicts.specs.Gathered.{with_share, lowest_in};
 
 use crate::GatheredShares;
 use board::{find_key, place_of};
-use group::{Element, ElementAnswer};
+use group::Element;
 use share::{EncryptedShare, ShareForm, judge_share_figures};
 use sharing::{Setting, recovered_from};
-use words::{record_at, refusal};
+use words::{Refusal, record_at};
 
 // What the judge of shares answers for the record i with the key of its member and his encrypted share: its figures decide, for the
 // board settles the rest.
@@ -21,9 +20,9 @@ fn accepted_share(
     b: &[u8],
     encrypted: &[u32],
     i: usize,
-) -> ElementAnswer
+) -> Result<Element, Refusal>
     requires { (ShareOf b.now form i) × (SharesOn s b.now form encrypted.now) }
-    ensures { element_outcome_of result ≡ share_answer judges s b.now form encrypted.now i }
+    ensures { result ≡ share_answer judges s b.now form encrypted.now i }
 {
     let share = record_at(b, i);
     let key = record_at(b, find_key(b, share.w2));
@@ -50,7 +49,7 @@ fn with_share(
     requires { (ShareOf b.now form i) × (SharesOn s b.now form encrypted.now) × (found.count < 31) }
     ensures { result ≡ with_share judges s b.now form encrypted.now i found }
 {
-    let ElementAnswer::Value(decrypted) = accepted_share(s, form, b, encrypted, i) else {
+    let Ok(decrypted) = accepted_share(s, form, b, encrypted, i) else {
         return found;
     };
     let member = record_at(b, i).w2;
@@ -91,16 +90,16 @@ fn lowest_shares(s: Setting, form: ShareForm, b: &[u8], encrypted: &[u32]) -> Ga
 // What the t lowest members with accepted shares recover, refused by 13 where there are fewer.
 // Internal: callers ensure that verdicts are reached, and that each member has an encrypted share.
 #[tactic(auto, using(crate::proofs::Secrets::few_refused))]
-pub(crate) fn from_lowest(s: Setting, form: ShareForm, b: &[u8], encrypted: &[u32]) -> ElementAnswer
+pub(crate) fn from_lowest(s: Setting, form: ShareForm, b: &[u8], encrypted: &[u32]) -> Result<Element, Refusal>
     requires { SharesOn s b.now form encrypted.now }
-    ensures { element_outcome_of result ≡ from_lowest s b.now (shares_in judges s b.now form encrypted.now) }
+    ensures { result ≡ from_lowest s b.now (shares_in judges s b.now form encrypted.now) }
 {
     let found = lowest_shares(s, form, b, encrypted);
     let k = found.count;
     if k < s.t as usize {
-        return ElementAnswer::Refused(refusal::STILL_STUCK);
+        return Err(Refusal::StillStuck);
     }
     let members = found.members;
     let shares = found.shares;
-    ElementAnswer::Value(recovered_from(s.group, &members[..k], &shares[..k]))
+    Ok(recovered_from(s.group, &members[..k], &shares[..k]))
 }

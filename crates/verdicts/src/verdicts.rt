@@ -16,11 +16,11 @@ use crate::shares::from_lowest;
 use crate::{Secret, Verdict};
 use board::{find_opening, lines_of, record_count};
 use dealing::judge_lines;
-use group::{ElementAnswer, Exponent, is_exponent};
+use group::{Exponent, is_exponent};
 use lines::Columns;
 use share::opened_form;
 use sharing::{Setting, opens};
-use words::{CheckAnswer, record_at, refusal};
+use words::{Refusal, record_at};
 
 // The secret from the t lowest members with accepted shares, stuck where there are fewer.
 // Internal: callers ensure that verdicts are reached, that the lines of d are accepted, and that these are the encrypted shares in them.
@@ -29,8 +29,8 @@ fn from_shares(s: Setting, b: &[u8], d: u32, encrypted: &[u32]) -> Secret
     ensures { result ≡ from_shares judges s b.now d }
 {
     match from_lowest(s, opened_form(d), b, encrypted) {
-        ElementAnswer::Refused(_) => Secret::Stuck,
-        ElementAnswer::Value(v) => Secret::Recovered(v),
+        Err(_) => Secret::Stuck,
+        Ok(v) => Secret::Recovered(v),
     }
 }
 
@@ -80,13 +80,13 @@ pub(crate) fn verdict(s: Setting, ys: &[u32], b: &[u8], d: u32) -> Verdict
         return Verdict::None;
     }
     if count != s.n as usize {
-        return Verdict::Refused(refusal::INCOMPLETE);
+        return Verdict::Refused(Refusal::Incomplete);
     }
     let judged = judge_lines(s, d, ys, lines);
     let answer = judged.answer;
     let figures = judged.figures;
     match answer {
-        CheckAnswer::Refused(k) => Verdict::Refused(k),
-        CheckAnswer::Passed => Verdict::Accepted(secret(s, b, d, figures)),
+        Err(k) => Verdict::Refused(k),
+        Ok(()) => Verdict::Accepted(secret(s, b, d, figures)),
     }
 }

@@ -20,8 +20,8 @@ returns-then-refused-ne0 c =
     extend_checks c.args.table.now c.args.b.now c.args.number c.args.value.0 (length c.args.out.now) in
     let cs = checks in
     record {
-      result_value = last-refused cs c.extend_refusal-refused.ensures c.if-refused-ne0.true tt;
-      out_after = last-kept cs c.extend_refusal-refused.ensures c.if-refused-ne0.true _ _;
+      result_value = last-refused cs c.check_extension-refused.ensures c.if-refused-ne0.true tt;
+      out_after = last-kept cs c.check_extension-refused.ensures c.if-refused-ne0.true _ _;
     }
 
 pub put_next-requires : goal.put_next-requires
@@ -32,7 +32,7 @@ put_next-requires c =
     let met : Met checks =
     let a = c.args in
     (none-exactly checks (extend-numbered a.table.now a.b.now a.number a.value.0 (length a.out.now))).0
-    (sym c.extend_refusal-refused.ensures ∙ c.if-refused-ne0.false) in
+    (sym c.check_extension-refused.ensures ∙ c.if-refused-ne0.false) in
     let a = c.args in
     let T = a.table.now in
     let b = a.b.now in
@@ -48,6 +48,6 @@ returns c =
     let met : Met checks =
     let a = c.args in
     (none-exactly checks (extend-numbered a.table.now a.b.now a.number a.value.0 (length a.out.now))).0
-    (sym c.extend_refusal-refused.ensures ∙ c.if-refused-ne0.false) in
+    (sym c.check_extension-refused.ensures ∙ c.if-refused-ne0.false) in
     let cs = checks in
     record { result_value = sym ((value-exactly Unit cs tt).1 met); out_after = c.put_next.ensures ∙ sym (if-met _ _ cs met) }

@@ -9,12 +9,12 @@ use Rattle.chain.proofs.judge_chain.Goals as goal
 pub returns-then-refused-ne0 : goal.returns-then-refused-ne0
 unfolding chain_outcome
 returns-then-refused-ne0 c =
-    let a = c.args in last-refused (chain_checks a.table.now a.b.now) c.chain_refusal-refused.ensures c.if-refused-ne0.true tt
+    let a = c.args in last-refused (chain_checks a.table.now a.b.now) c.check_chain-refused.ensures c.if-refused-ne0.true tt
 
 pub returns : goal.returns
 unfolding chain_outcome
 returns c =
     let a = c.args in
     let cs = chain_checks a.table.now a.b.now in
-    let m = (none-exactly cs (chain-numbered a.table.now a.b.now)).0 (sym c.chain_refusal-refused.ensures ∙ c.if-refused-ne0.false) in
+    let m = (none-exactly cs (chain-numbered a.table.now a.b.now)).0 (sym c.check_chain-refused.ensures ∙ c.if-refused-ne0.false) in
     sym ((value-exactly Unit cs tt).1 m)

@@ -3,10 +3,10 @@ use mathlib.Core.Path.{sym, ap, ◌∙◌}
 use Prim.Native.Nat.{ℕ}
 use native.Mathlib.Omega.{arith}
 use borrow.Author.Tests.{not-true, not-false}
-use Rattle.words.specs.Checks.{value}
 use Rattle.group.specs.Answer.{power_in}
 use Rattle.group.proofs.Elements.{element-true}
 use Rattle.group.proofs.power_in.Goals as goal
+use Rattle.std.specs.Prelude.{Ok}
 
 pub returns-then-not-is_element : goal.returns-then-not-is_element
 unfolding power_in
@@ -25,6 +25,6 @@ power-requires c =
 pub returns : goal.returns
 unfolding power_in
 returns c =
-    ap (λ (x : ℕ). value (record { 0 = x })) c.power.ensures
+    ap (λ (x : ℕ). Ok (record { 0 = x })) c.power.ensures
     ∙ simp
     (← c.is_element.ensures, not-false c.is_element.result c.if-not-is_element.false-raw, ← c.is_exponent.ensures, not-false c.is_exponent.result c.if-not-is_exponent.false-raw)

@@ -17,8 +17,8 @@ returns-then-refused-ne0 c =
     pick_checks c.args.gr c.args.value c.args.radius c.args.total c.args.count (length c.args.out.now) in
     let cs = checks in
     record {
-      result_value = last-refused cs c.pick_refusal-refused.ensures c.if-refused-ne0.true tt;
-      out_after = last-kept cs c.pick_refusal-refused.ensures c.if-refused-ne0.true _ _;
+      result_value = last-refused cs c.check_pick-refused.ensures c.if-refused-ne0.true tt;
+      out_after = last-kept cs c.check_pick-refused.ensures c.if-refused-ne0.true _ _;
     }
 
 pub overflow_cast-radius : goal.overflow_cast-radius
@@ -26,7 +26,7 @@ overflow_cast-radius c =
     let checks : List Check =
     pick_checks c.args.gr c.args.value c.args.radius c.args.total c.args.count (length c.args.out.now) in
     let met : Met checks =
-    stage-met checks c.pick_refusal-refused.ensures refl c.if-refused-ne0.false in
+    stage-met checks c.check_pick-refused.ensures refl c.if-refused-ne0.false in
     let settled : let a = c.args in Pickable a.radius a.total a.count (length a.out.now) =
     pickable _ _ _ _ met.1 in
     record { fits = settled.radius-low }
@@ -36,7 +36,7 @@ put_picked-requires c =
     let checks : List Check =
     pick_checks c.args.gr c.args.value c.args.radius c.args.total c.args.count (length c.args.out.now) in
     let met : Met checks =
-    stage-met checks c.pick_refusal-refused.ensures refl c.if-refused-ne0.false in
+    stage-met checks c.check_pick-refused.ensures refl c.if-refused-ne0.false in
     let settled : let a = c.args in Pickable a.radius a.total a.count (length a.out.now) =
     pickable _ _ _ _ met.1 in
     let p = settled in (p.N-most, omega (arith, p.size, p.k-most))
@@ -47,7 +47,7 @@ returns c =
     let checks : List Check =
     pick_checks c.args.gr c.args.value c.args.radius c.args.total c.args.count (length c.args.out.now) in
     let met : Met checks =
-    stage-met checks c.pick_refusal-refused.ensures refl c.if-refused-ne0.false in
+    stage-met checks c.check_pick-refused.ensures refl c.if-refused-ne0.false in
     let settled : let a = c.args in Pickable a.radius a.total a.count (length a.out.now) =
     pickable _ _ _ _ met.1 in
     let cs = checks in

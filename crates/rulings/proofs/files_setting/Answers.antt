@@ -11,12 +11,12 @@ use Rattle.rulings.proofs.Settings.{files-refused, files-met, files-passed}
 use Rattle.rulings.proofs.files_setting.Goals as goal
 
 pub returns-then-k-ne0 : goal.returns-then-k-ne0
-returns-then-k-ne0 c = files-refused _ _ c.files_refusal-k.ensures c.if-k-ne0.true
+returns-then-k-ne0 c = files-refused _ _ c.check_files-k.ensures c.if-k-ne0.true
 
 pub read_record-r-requires : goal.read_record-r-requires
 read_record-r-requires c =
     let a = c.args in
-    let m = files-met a.table.now a.set.now c.files_refusal-k.ensures c.if-k-ne0.false in
+    let m = files-met a.table.now a.set.now c.check_files-k.ensures c.if-k-ne0.false in
     eqb-true _ 32 (met-both (table_checks a.table.now) (set_checks a.set.now) m).1.0
 
 -- the round of the record that is read
@@ -26,7 +26,7 @@ round_of r = record { group = r.w1; n = r.w2; t = r.w3; round = r.w4; first_new_
 pub returns : goal.returns
 returns c =
     let a = c.args in
-    let m = files-met a.table.now a.set.now c.files_refusal-k.ensures c.if-k-ne0.false in
+    let m = files-met a.table.now a.set.now c.check_files-k.ensures c.if-k-ne0.false in
     c.setting_in.ensures
     ∙ ap (λ (x : Record). figures_outcome a.table.now (round_of x)) c.read_record-r.ensures
     ∙ files-passed a.table.now a.set.now m

@@ -8,8 +8,8 @@ use Rattle.rulings.specs.Ruling.{refused_ruling, JudgementOf}
 use Rattle.rulings.proofs.Reached.{setting-refused, board-refused, board-reached, ruled-round}
 use Rattle.rulings.proofs.judge_board.Goals as goal
 
-pub board_refusal_in-k-requires : goal.board_refusal_in-k-requires
-board_refusal_in-k-requires c = setting-proper _ _ c.setting_of.ensures c.in-Value.is
+pub check_board-k-requires : goal.check_board-k-requires
+check_board-k-requires c = setting-proper _ _ c.setting_of.ensures c.in-Value.is
 
 pub returns-then-k-ne0 : goal.returns-then-k-ne0
 unfolding refused_ruling
@@ -17,12 +17,12 @@ returns-then-k-ne0 c =
     let a = c.args in
     subst (JudgementOf judges a.table.now a.rd a.board.now) (sym c.refused_board-then-k-ne0.ensures)
     (ruled-round judges a.table.now a.rd a.board.now c.setting_of.result c.setting_of.ensures
-    (board-refused judges a.board.now c.setting_of.result c.in-Value.is c.board_refusal_in-k.ensures c.if-k-ne0.true refl))
+    (board-refused judges a.board.now c.setting_of.result c.in-Value.is c.check_board-k.ensures c.if-k-ne0.true refl))
 
 pub all_verdicts-requires : goal.all_verdicts-requires
 all_verdicts-requires c =
     let a = c.args in
-    (setting-proper _ _ c.setting_of.ensures c.in-Value.is, board-met c.in-Value.s a.board.now (sym c.board_refusal_in-k.ensures ∙ c.if-k-ne0.false))
+    (setting-proper _ _ c.setting_of.ensures c.in-Value.is, board-met c.in-Value.s a.board.now (sym c.check_board-k.ensures ∙ c.if-k-ne0.false))
 
 pub returns-in-Refused : goal.returns-in-Refused
 unfolding refused_ruling
@@ -34,5 +34,5 @@ returns-in-Refused c =
 pub returns-else-k-ne0 : goal.returns-else-k-ne0
 returns-else-k-ne0 c =
     let a = c.args in
-    let met = board-met c.in-Value.s a.board.now (sym c.board_refusal_in-k.ensures ∙ c.if-k-ne0.false) in
+    let met = board-met c.in-Value.s a.board.now (sym c.check_board-k.ensures ∙ c.if-k-ne0.false) in
     ruled-round judges a.table.now a.rd a.board.now c.setting_of.result c.setting_of.ensures (board-reached judges a.board.now c.setting_of.result c.in-Value.is met c.all_verdicts.ensures)

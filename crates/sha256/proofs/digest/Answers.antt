@@ -1,12 +1,12 @@
 -- `digest` refuses a message that is too long, and else absorbs its blocks.
 -- Invariant: the state is the hash value after the first i blocks.
 use Rattle.std.proofs.Common.{◌≡◌, ap, ◌∙◌, add-one, arith, le-leb}
-use Rattle.words.specs.Checks.{value}
 use Rattle.sha256.specs.Padding.{pad, blocks}
 use Rattle.sha256.specs.Hash.{compress, state_record, intermediate, hash_value}
 use lib.ListN.{length}
 use Prim.Native.Nat.{◌≤◌}
 use Rattle.sha256.proofs.digest.Goals as goal
+use Rattle.std.specs.Prelude.{Ok}
 
 pub loop-i-init : goal.loop-i-init
 unfolding intermediate
@@ -27,4 +27,4 @@ returns c =
     let e : c.loop-i.i ≡ blocks (pad a.s.now) = omega arith in
     let r = c.hash_value.ensures ∙ (λ j. state_record ((c.loop-i.invariant.1 ∙ ap (intermediate (pad a.s.now)) e) j)) in
     let short : length a.s.now ≤ 65536 = omega arith in
-    rw (le-leb _ _ short) (ap value r)
+    rw (le-leb _ _ short) (ap Ok r)

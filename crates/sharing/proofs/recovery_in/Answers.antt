@@ -2,10 +2,10 @@
 use mathlib.Core.Path.{ap, ◌∙◌, sym}
 use Prim.Native.Nat.{ℕ}
 use borrow.Author.Tests.{eq-eqb, ne_eqb}
-use Rattle.words.specs.Checks.{value}
 use Rattle.sharing.specs.Answer.{recovery_in}
 use Rattle.sharing.proofs.Rounds.{tested_low}
 use Rattle.sharing.proofs.recovery_in.Goals as goal
+use Rattle.std.specs.Prelude.{Ok}
 
 pub returns-then-ms-ss : goal.returns-then-ms-ss
 unfolding recovery_in
@@ -28,5 +28,5 @@ recovered_from-requires c =
 pub returns : goal.returns
 unfolding recovery_in
 returns c =
-    ap (λ (x : ℕ). value (record { 0 = x })) c.recovered_from.ensures
+    ap (λ (x : ℕ). Ok (record { 0 = x })) c.recovered_from.ensures
     ∙ simp (eq-eqb _ _ c.if-ms-ss.false, sym c.is_quorum.ensures ∙ c.if-not-is_quorum.false, sym c.all_elements.ensures ∙ c.if-not-all_elements.false)

@@ -11,7 +11,7 @@ pub returns-then-k-ne0 : goal.returns-then-k-ne0
 unfolding lines_outcome
 returns-then-k-ne0 c =
     let a = c.args in
-    last-refused (lines_checks c.in-Value.s a.d a.b.now) c.lines_refusal-k.ensures c.if-k-ne0.true tt
+    last-refused (lines_checks c.in-Value.s a.d a.b.now) c.check_lines-k.ensures c.if-k-ne0.true tt
     ∙ judged-value _ _ _ _ c.setting_of.ensures c.in-Value.is
 
 pub returns-in-Refused : goal.returns-in-Refused
@@ -23,6 +23,6 @@ unfolding lines_outcome
 returns-else-k-ne0 c =
     let a = c.args in
     let S = c.in-Value.s in
-    let m = lines-met S a.b.now a.d (sym c.lines_refusal-k.ensures ∙ c.if-k-ne0.false) in
+    let m = lines-met S a.b.now a.d (sym c.check_lines-k.ensures ∙ c.if-k-ne0.false) in
     sym ((value-exactly (Unit {0}) (lines_checks S a.d a.b.now) tt).1 m)
     ∙ judged-value _ _ _ _ c.setting_of.ensures c.in-Value.is

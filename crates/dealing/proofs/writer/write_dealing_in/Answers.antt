@@ -15,8 +15,8 @@ returns-then-k-ne0 c =
     let cs : List Check =
     write_dealing_checks c.args.s c.args.d c.args.ys.now c.args.f.now c.args.ws.now (length c.args.out.now) in
     record {
-      result_value = last-refused cs c.write_refusal-k.ensures c.if-k-ne0.true tt;
-      out_after = last-kept cs c.write_refusal-k.ensures c.if-k-ne0.true _ _;
+      result_value = last-refused cs c.check_writing-k.ensures c.if-k-ne0.true tt;
+      out_after = last-kept cs c.check_writing-k.ensures c.if-k-ne0.true _ _;
     }
 
 pub put_dealing-requires : goal.put_dealing-requires
@@ -24,7 +24,7 @@ put_dealing-requires c =
     let cs : List Check =
     write_dealing_checks c.args.s c.args.d c.args.ys.now c.args.f.now c.args.ws.now (length c.args.out.now) in
     let met : Met cs =
-    write-none _ _ _ _ _ _ c.write_refusal-k.ensures c.if-k-ne0.false in
+    write-none _ _ _ _ _ _ c.check_writing-k.ensures c.if-k-ne0.false in
     let w = writable _ _ _ _ _ _ met in
     (c.requires, w.0.dealer.1, w.0.keys-size, w.0.nonces-size, w.0.nonces, w.1)
 
@@ -34,7 +34,7 @@ returns c =
     let cs : List Check =
     write_dealing_checks c.args.s c.args.d c.args.ys.now c.args.f.now c.args.ws.now (length c.args.out.now) in
     let met : Met cs =
-    write-none _ _ _ _ _ _ c.write_refusal-k.ensures c.if-k-ne0.false in
+    write-none _ _ _ _ _ _ c.check_writing-k.ensures c.if-k-ne0.false in
     record {
       result_value = sym ((value-exactly Unit cs tt).1 met);
       out_after = c.put_dealing.ensures ∙ sym (if-met _ _ cs met);

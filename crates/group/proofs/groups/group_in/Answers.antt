@@ -2,12 +2,12 @@
 use mathlib.Core.Path.{sym, ap, ◌∙◌}
 use mathlib.Core.List.{List}
 use native.Mathlib.Omega.{arith}
-use Rattle.words.specs.Checks.{value}
 use Rattle.group.specs.Table.{groups_of, looked_up}
 use Rattle.group.specs.declared.Group.{Group}
 use Rattle.group.proofs.Turns.{no_bytes, number-zero, number-high, number_at}
 use Rattle.group.proofs.groups.group_in.Goals.{then-number-lt1-via-then-number-lt1, then-number-lt1-via-else-number-lt1+then-number-table}
 use Rattle.group.proofs.groups.group_in.Goals as goal
+use Rattle.std.specs.Prelude.{Ok}
 
 pub returns-then-table-eq0 : goal.returns-then-table-eq0
 returns-then-table-eq0 c =
@@ -30,4 +30,4 @@ pub returns : goal.returns
 returns c =
     let a = c.args in
     let s = number_at a.table.now a.number c.if-table-eq0.false c.if-number-lt1.false c.if-number-table.false in
-    ap value c.group_at.ensures ∙ sym (simp (s.0, s.1))
+    ap Ok c.group_at.ensures ∙ sym (simp (s.0, s.1))

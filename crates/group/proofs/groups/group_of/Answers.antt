@@ -11,7 +11,7 @@ pub returns-then-refused-ne0 : goal.returns-then-refused-ne0
 unfolding group_checks
 returns-then-refused-ne0 c =
     let a = c.args in
-    stage-refused (table_checks a.table.now) c.table_refusal-refused.ensures _ c.if-refused-ne0.true _
+    stage-refused (table_checks a.table.now) c.check_table-refused.ensures _ c.if-refused-ne0.true _
 
 pub returns : goal.returns
 unfolding group_checks
@@ -19,4 +19,4 @@ returns c =
     let T = c.args.table.now in
     let k = c.args.number in
     c.group_in.ensures
-    ∙ rest-outcome (table_checks T) (1 unless is_group (groups_of T) k ∷ []) (table-met T c.table_refusal-refused.ensures c.if-refused-ne0.false) (group_of (groups_of T) k)
+    ∙ rest-outcome (table_checks T) (1 unless is_group (groups_of T) k ∷ []) (table-met T c.check_table-refused.ensures c.if-refused-ne0.false) (group_of (groups_of T) k)

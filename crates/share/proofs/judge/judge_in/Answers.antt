@@ -10,20 +10,20 @@ use Rattle.share.proofs.judge.judge_in.Goals as goal
 pub returns-then-k-ne0 : goal.returns-then-k-ne0
 unfolding judge_share_in
 returns-then-k-ne0 c =
-    stage-refused (share_admission_checks _ _ _ _ _ _) c.admission_refusal-k.ensures (share_figure_checks _ _ _ _ _ _) c.if-k-ne0.true _
+    stage-refused (share_admission_checks _ _ _ _ _ _) c.check_admission-k.ensures (share_figure_checks _ _ _ _ _ _) c.if-k-ne0.true _
 
 pub read_record-requires : goal.read_record-requires
-read_record-requires c = (admission-none _ _ _ _ _ _ c.admission_refusal-k.ensures c.if-k-ne0.false).size
+read_record-requires c = (admission-none _ _ _ _ _ _ c.check_admission-k.ensures c.if-k-ne0.false).size
 
 pub judge_share_figures-requires : goal.judge_share_figures-requires
 judge_share_figures-requires c =
-    let A = admission-none _ _ _ _ _ _ c.admission_refusal-k.ensures c.if-k-ne0.false in
+    let A = admission-none _ _ _ _ _ _ c.check_admission-k.ensures c.if-k-ne0.false in
     (c.requires, dealer-most _ _ A.dealer, A.member.1)
 
 pub returns : goal.returns
 returns c =
     let a = c.args in
-    let A = admission-none _ _ _ _ _ _ c.admission_refusal-k.ensures c.if-k-ne0.false in
+    let A = admission-none _ _ _ _ _ _ c.check_admission-k.ensures c.if-k-ne0.false in
     c.judge_share_figures.ensures
     ∙ ap (λ (x : Record). judge_share_figures_in a.s a.e.form a.e.member a.y.0 a.e.encrypted.0 x) c.read_record.ensures
     ∙ figures-decide a.s a.e.form a.e.member a.y.0 a.e.encrypted.0 a.b.now A

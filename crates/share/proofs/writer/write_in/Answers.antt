@@ -9,7 +9,7 @@ use Rattle.share.proofs.writer.write_in.Goals as goal
 pub returns-then-k-ne0 : goal.returns-then-k-ne0
 unfolding write_share_in lent_after_share_in
 returns-then-k-ne0 c =
-    let e = c.write_refusal-k.ensures in
+    let e = c.check_writing-k.ensures in
     record {
       result_value = last-refused (write_share_checks _ _ _ _ _ _ _) e c.if-k-ne0.true tt;
       out_after = last-kept (write_share_checks _ _ _ _ _ _ _) e c.if-k-ne0.true _ _;
@@ -17,13 +17,13 @@ returns-then-k-ne0 c =
 
 pub put_share-requires : goal.put_share-requires
 put_share-requires c =
-    let W = write-settled _ _ _ _ _ _ _ (write-none _ _ _ _ _ _ _ c.write_refusal-k.ensures c.if-k-ne0.false) in
+    let W = write-settled _ _ _ _ _ _ _ (write-none _ _ _ _ _ _ _ c.check_writing-k.ensures c.if-k-ne0.false) in
     (c.requires, dealer-most _ _ W.dealer, W.member.1, W.x-some, W.x-low, W.w-low, W.size)
 
 pub returns : goal.returns
 unfolding write_share_in lent_after_share_in
 returns c =
-    let m = write-none _ _ _ _ _ _ _ c.write_refusal-k.ensures c.if-k-ne0.false in
+    let m = write-none _ _ _ _ _ _ _ c.check_writing-k.ensures c.if-k-ne0.false in
     record {
       result_value = sym ((value-exactly Unit (write_share_checks _ _ _ _ _ _ _) tt).1 m);
       out_after = c.put_share.ensures ∙ sym (if-met _ _ (write_share_checks _ _ _ _ _ _ _) m);

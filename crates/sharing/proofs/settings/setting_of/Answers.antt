@@ -9,9 +9,9 @@ use Rattle.sharing.proofs.settings.setting_of.Goals as goal
 
 pub returns-then-refused-ne0 : goal.returns-then-refused-ne0
 unfolding setting_outcome round_checks
-returns-then-refused-ne0 c = stage-refused (table_checks c.args.table.now) c.table_refusal-refused.ensures _ c.if-refused-ne0.true _
+returns-then-refused-ne0 c = stage-refused (table_checks c.args.table.now) c.check_table-refused.ensures _ c.if-refused-ne0.true _
 
 pub returns : goal.returns
 returns c =
     let a = c.args in
-    c.setting_in.ensures ∙ figures-setting a.table.now a.rd (table-met a.table.now c.table_refusal-refused.ensures c.if-refused-ne0.false)
+    c.setting_in.ensures ∙ figures-setting a.table.now a.rd (table-met a.table.now c.check_table-refused.ensures c.if-refused-ne0.false)

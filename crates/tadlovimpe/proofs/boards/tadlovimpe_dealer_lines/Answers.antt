@@ -5,12 +5,10 @@ use Prim.Native.Nat.{ℕ, ◌*◌, ◌≤◌}
 use native.Mathlib.Omega.{arith}
 use lib.ListN.{length}
 use Rattle.words.specs.Bytes.{records_in}
-use Rattle.words.specs.Checks.{Outcome, Met, check_outcome_of}
+use Rattle.words.specs.Checks.{Outcome, Met}
 use Rattle.words.proofs.Checks.{value-met, if-met}
 use Rattle.words.proofs.Stages.{met-both}
 use Rattle.sharing.specs.Setting.{setting_in, round_checks, judged, judged_else}
-use Rattle.words.specs.declared.CheckAnswer.{CheckAnswer}
-use Rattle.words.specs.declared.CheckAnswer.TheVariants.{Passed}
 use Rattle.sharing.specs.declared.Round.{Round}
 use Rattle.board.specs.Board.{lines_start, lines_of, lines_checks, lines_outcome, lines_part, lines_at}
 use Rattle.board.specs.Sorted.{Sorted}
@@ -19,12 +17,13 @@ use Rattle.board.proofs.Places.{place-within}
 use Rattle.tadlovimpe.specs.Figures.{part_of}
 use Rattle.tadlovimpe.proofs.Refusals.{all_checks}
 use Rattle.tadlovimpe.proofs.boards.tadlovimpe_dealer_lines.Goals as goal
+use Rattle.std.specs.Prelude.{Ok}
 
 -- every check is met where the answer passes, and then the records ascend
-module _ (T : List ℕ) (R : Round) (d : ℕ) (b : List ℕ) {a : CheckAnswer} (e : check_outcome_of a ≡ lines_outcome T R d b) (f : a ≡ Passed) where
+module _ (T : List ℕ) (R : Round) (d : ℕ) (b : List ℕ) {a : CheckAnswer} (e : a ≡ lines_outcome T R d b) (f : a ≡ (Ok tt)) where
   passed : Met (all_checks T R d b)
   unfolding lines_outcome judged
-  passed = (value-met (all_checks T R d b) tt tt (sym e ∙ ap check_outcome_of f)).0
+  passed = (value-met (all_checks T R d b) tt tt (sym e ∙ ap f)).0
 
   ascending : Sorted b
   unfolding lines_checks
@@ -51,7 +50,7 @@ returns-in-Refused c =
     let a = c.args in
     let start = lines_at a.table.now a.round a.dealer a.board.now in
     let bytes = length (lines_part a.table.now a.round a.dealer a.board.now) in
-    ap (λ (o : Outcome (Unit {0})). part_of o start bytes) (sym (ap check_outcome_of c.in-Refused.is) ∙ c.lines_check.ensures)
+    ap (λ (o : Outcome (Unit {0})). part_of o start bytes) (sym (ap c.in-Refused.is) ∙ c.lines_check.ensures)
 
 pub returns-in-Passed : goal.returns-in-Passed
 unfolding lines_part lines_at judged_else
@@ -61,7 +60,7 @@ returns-in-Passed c =
     let cs = all_checks a.table.now a.round a.dealer b in
     let t = c.in-Passed.is in
     let m = passed a.table.now a.round a.dealer b c.lines_check.ensures t in
-    let o = sym (ap check_outcome_of t) ∙ c.lines_check.ensures in
+    let o = sym (ap t) ∙ c.lines_check.ensures in
     let start = ap (λ (k : ℕ). 32 * k) c.place_of-start.ensures ∙ sym (if-met (32 * lines_start b a.dealer) 0 cs m) in
     let bytes = ap length (c.lines_of-part.ensures.result_value ∙ sym (if-met (lines_of b a.dealer) [] cs m)) in
     λ i. part_of (o i) (start i) (bytes i)

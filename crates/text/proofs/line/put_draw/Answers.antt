@@ -2,14 +2,12 @@
 use mathlib.Core.Path.{ap}
 use mathlib.Core.List.{List}
 use Prim.Native.Nat.{ℕ}
-use Rattle.group.specs.Answer.{element_outcome_of}
-use Rattle.group.specs.declared.ElementAnswer.{ElementAnswer}
 use Rattle.text.specs.Text.{refused_line, draw_line}
 use Rattle.text.proofs.Writing.{room_as, written_as}
 use Rattle.text.proofs.line.put_draw.Goals as goal
 
 abbrev line_of : ElementAnswer → List ℕ
-line_of a = draw_line (element_outcome_of a)
+line_of a = draw_line (a)
 
 pub put_line-requires : goal.put_line-requires
 put_line-requires c = room_as (ap line_of c.in-Value.is) c.requires

@@ -1,7 +1,6 @@
 -- `put_report` meets its contract: the four parts are written one behind the other.
 use mathlib.Core.List.{List}
 use Prim.Native.Nat.{ℕ}
-use Rattle.group.specs.Answer.{element_outcome_of}
 use Rattle.sharing.specs.declared.Setting.{Setting}
 use Rattle.verdicts.specs.declared.Judgement.{Judgement}
 use Rattle.text.specs.Text.{dealer_lines, draw_line, round_line, accepted_line}
@@ -14,7 +13,7 @@ abbrev dealers : Setting → Judgement → List ℕ
 dealers S A = dealer_lines 1 (verdicts_at S.n A.verdicts)
 
 abbrev last : Judgement → List ℕ
-last A = draw_line (element_outcome_of A.draw)
+last A = draw_line (A.draw)
 
 pub put_round-a-requires : goal.put_round-a-requires
 unfolding report_from
