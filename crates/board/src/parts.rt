@@ -36,13 +36,8 @@ fn check_lines(s: Setting, d: u32, b: &[u8]) -> Result<(), Refusal>
 pub fn lines_check(table: &[u8], rd: Round, d: u32, b: &[u8]) -> Result<(), Refusal>
     ensures { result ≡ lines_outcome table.now rd d b.now }
 {
-    match setting_of(table, rd) {
-        Err(k) => Err(k),
-        Ok(s) => {
-            check_lines(s, d, b)?;
-            Ok(())
-        }
-    }
+    let s = setting_of(table, rd)?;
+    check_lines(s, d, b)
 }
 
 // The lines of dealer d: the part of the caller's board that holds them, empty where lines_check refuses.

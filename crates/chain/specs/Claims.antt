@@ -4,6 +4,7 @@ use Rattle.words.specs.Choice.{pick}
 use Rattle.words.specs.Checks.{Met}
 use Rattle.words.specs.Bytes.{agrees}
 use Rattle.words.specs.declared.Record.{Record}
+use Rattle.words.specs.declared.refusal.Refusal.{Refusal}
 use Rattle.sha256.specs.Hash.{hash}
 use Rattle.group.specs.Table.{groups_of, table_checks, is_group, group_of}
 use Rattle.group.specs.Element.{is_element}
@@ -47,7 +48,7 @@ StartsAccepted = (T b : List ℕ) → AcceptedChain T b → (m : ℕ) → m ≤ 
 pub record Extended (T b : List ℕ) (number v : ℕ) (out : List ℕ) : Type 0 where
   pub written : extend_outcome T b number v (length out) ≡ Ok tt → lent_link T b number v out ≡ next_link b number v
   pub accepted : extend_outcome T b number v (length out) ≡ Ok tt → AcceptedChain T (b ++ lent_link T b number v out)
-  pub kept : (k : ℕ) → extend_outcome T b number v (length out) ≡ Err k → lent_link T b number v out ≡ out
+  pub kept : (k : Refusal) → extend_outcome T b number v (length out) ≡ Err k → lent_link T b number v out ≡ out
 
 abbrev pub ExtendLent : Type 0
 ExtendLent = (T b : List ℕ) (number v : ℕ) (out : List ℕ) → Extended T b number v out

@@ -17,6 +17,7 @@ use Rattle.lines.specs.Lines.{address_checks, is_line_of, v_in, Y_in, r_in, c_in
 use Rattle.dealing.specs.Dealing.{judge_size_checks, judge_dealing_checks, judge_dealing_in, judge_dealing_outcome, recomputed}
 use Rattle.dealing.specs.Dealing.{written_dealing, write_size_checks, write_dealing_checks, write_dealing_in, write_dealing_outcome, lent_dealing_in, lent_dealing}
 use Rattle.words.specs.declared.refusal.Refusal.TheVariants.{DegreeFails, ProofFails, OtherRound, SameKey}
+use Rattle.words.specs.declared.refusal.Refusal.{Refusal}
 
 -- ---- a posted dealing
 -- the line of member i: its form and its figures
@@ -171,7 +172,7 @@ LentDealing =
 -- and stay as they were where a number is refused
 abbrev pub LentDealingKept : Type 0
 LentDealingKept =
-    (S : Setting) (d : ℕ) (ys f ws out : List ℕ) (k : ℕ) → write_dealing_in S d ys f ws (length out) ≡ Err k
+    (S : Setting) (d : ℕ) (ys f ws out : List ℕ) (k : Refusal) → write_dealing_in S d ys f ws (length out) ≡ Err k
     → lent_dealing_in S d ys f ws out ≡ out
 
 -- ---- over a table and a round
@@ -179,7 +180,7 @@ LentDealingKept =
 pub record DealingOverRound (T : List ℕ) (R : Round) : Type 0 where
   pub judged-met : (d : ℕ) (ys b : List ℕ) → judge_dealing_outcome T R d ys b ≡ Ok tt → Met (round_checks T R)
   pub written-met : (d : ℕ) (ys f ws : List ℕ) (room : ℕ) → write_dealing_outcome T R d ys f ws room ≡ Ok tt → Met (round_checks T R)
-  pub kept : (d : ℕ) (ys f ws out : List ℕ) (k : ℕ) → write_dealing_outcome T R d ys f ws (length out) ≡ Err k
+  pub kept : (d : ℕ) (ys f ws out : List ℕ) (k : Refusal) → write_dealing_outcome T R d ys f ws (length out) ≡ Err k
       → lent_dealing T R d ys f ws out ≡ out
   pub proper : Met (round_checks T R) → ProperSetting (setting_in T R)
   pub judged-in : Met (round_checks T R) → (d : ℕ) (ys b : List ℕ) → judge_dealing_outcome T R d ys b ≡ judge_dealing_in (setting_in T R) d ys b

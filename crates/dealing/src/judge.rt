@@ -10,7 +10,6 @@ ghost use Rattle.dealing.specs.Dealing.{dealing_form_checks, recomputed, range_c
 ghost use Rattle.dealing.specs.Dealing.{judge_dealing_in, judge_dealing_outcome};
 ghost use Rattle.dealing.specs.Columns.{column_checks};
 
-use crate::LinesAnswer;
 use challenge::{check_polynomial, dealing_challenge};
 use equality::announced;
 use group::{Element, Exponent, all_elements, all_exponents};
@@ -114,28 +113,24 @@ fn judge_figures(s: Setting, d: u32, ys: &[u32], figures: Columns) -> Result<(),
     requires { (ProperSetting s) × (d ≤ s.n) × (length ys.now ≡ s.n) }
     ensures { result ≡ outcome (column_checks s d ys.now figures) tt }
 {
-    let vs = figures.vs;
-    let encrypted = figures.encrypted;
-    let rs = figures.rs;
-    let cs = figures.cs;
-    check_ranges(s, vs, encrypted, rs, cs)?;
-    if !own_check_passes(s, d, vs, encrypted) {
+    check_ranges(s, figures.vs, figures.encrypted, figures.rs, figures.cs)?;
+    if !own_check_passes(s, d, figures.vs, figures.encrypted) {
         return Err(Refusal::DegreeFails);
     }
     let c = recomputed(s, d, ys, figures);
-    passed_if(all_equal(c, cs, s.n as usize), Refusal::ProofFails)
+    passed_if(all_equal(c, figures.cs, s.n as usize), Refusal::ProofFails)
 }
 
-// Judges the lines of the dealer d by their figures, which are read once and handed back: 6 for a v or Y, 7, 9 and 10.
+// Judges the lines of the dealer d by their figures, which are read once; those of accepted ones are handed back. Refused: 6 for a v or
+// Y, 7, 9 and 10.
 // Internal: callers ensure a proper setting, a dealer at most n, n keys and n lines.
-pub fn judge_lines(s: Setting, d: u32, ys: &[u32], lines: &[u8]) -> LinesAnswer
+pub fn judge_lines(s: Setting, d: u32, ys: &[u32], lines: &[u8]) -> Result<Columns, Refusal>
     requires { (ProperSetting s) × (d ≤ s.n) × (length ys.now ≡ s.n) × (length lines.now ≡ 32 * s.n) }
-    ensures answer_value { result.answer ≡ outcome (line_figure_checks s d ys.now lines.now) tt }
-    ensures figures_value { result.figures ≡ columns_of s.n lines.now }
+    ensures { result ≡ outcome (line_figure_checks s d ys.now lines.now) (columns_of s.n lines.now) }
 {
     let figures = read_lines(lines, s.n as usize);
-    let answer = judge_figures(s, d, ys, figures);
-    LinesAnswer { answer, figures }
+    judge_figures(s, d, ys, figures)?;
+    Ok(figures)
 }
 
 // Judges a dealing in a setting: 8, 3, 6, 22, 4, 17, 6, 7, 9 and 10. Internal: callers ensure that the setting is proper.
@@ -144,7 +139,8 @@ pub fn judge_dealing_in(s: Setting, d: u32, ys: &[u32], lines: &[u8]) -> Result<
     ensures { result ≡ judge_dealing_in s d ys.now lines.now }
 {
     check_form(s, d, ys, lines)?;
-    judge_lines(s, d, ys, lines).answer
+    judge_lines(s, d, ys, lines)?;
+    Ok(())
 }
 
 // Judges the lines of the dealer d, with the keys ys. Refused: as setting_of; 8 d is no member; 3 not n keys or not 32n

@@ -5,12 +5,4 @@ mod judge;
 mod writer;
 
 pub use judge::{judge_dealing, judge_dealing_in, judge_lines};
-use lines::Columns;
 pub use writer::{write_dealing, write_dealing_in};
-
-// What the judge of a dealing's lines answers, with their figures beside it, which it has read.
-#[derive(Clone, Copy)]
-pub struct LinesAnswer {
-    pub answer: CheckAnswer,
-    pub figures: Columns,
-}

@@ -24,7 +24,8 @@ use Rattle.verdicts.specs.Draw.{count_accepted, secret_value, draw_in, draw_outc
 use Rattle.verdicts.specs.declared.Secret.{Secret}
 use Rattle.verdicts.specs.declared.Secret.TheVariants.{Opened, Recovered, Stuck}
 use Rattle.verdicts.specs.declared.Verdict.TheVariants.{None, Refused, Accepted}
-use Rattle.words.specs.declared.refusal.Refusal.TheVariants.{StillStuck, TooFew}
+use Rattle.words.specs.declared.refusal.Refusal.TheVariants.{Incomplete, StillStuck, TooFew}
+use Rattle.words.specs.declared.refusal.Refusal.{Refusal}
 
 -- ---- words of the claims
 -- the board's kind 3 record of the dealer holds an opening accepted for his commitments
@@ -48,8 +49,8 @@ pub record VerdictRule (J : Judges) (S : Setting) (b : List ℕ) (d : ℕ) : Typ
   -- none exactly where he has no lines
   pub none : (verdict_on J S b d ≡ None) ↔ ((i : ℕ) → i < records_in b → (record_at b i).w0 ≡ line_kind → dealer_of (record_at b i) ≡ d → ⊥)
   -- refused by 12 where he has some lines but not n, and by the judge's number where it refuses his n lines
-  pub refuses : (k : ℕ) → (verdict_on J S b d ≡ Refused k)
-      ↔ (((line_count b d ≡ 0 → ⊥) × (line_count b d ≡ S.n → ⊥) × (k ≡ 12)) ⊎ ((line_count b d ≡ S.n) × (dealing_answer J S b d ≡ Err k)))
+  pub refuses : (k : Refusal) → (verdict_on J S b d ≡ Refused k)
+      ↔ (((line_count b d ≡ 0 → ⊥) × (line_count b d ≡ S.n → ⊥) × (k ≡ Incomplete)) ⊎ ((line_count b d ≡ S.n) × (dealing_answer J S b d ≡ Err k)))
   -- accepted where the judge accepts his n lines
   pub accepts : (is_accepted J S b d ≡ true) ↔ ((line_count b d ≡ S.n) × (dealing_answer J S b d ≡ Ok tt))
   pub accepted : (s : Secret) → (verdict_on J S b d ≡ Accepted s) ↔ ((is_accepted J S b d ≡ true) × (secret_by J S b d ≡ s))
@@ -68,7 +69,7 @@ VerdictRules = (J : Judges) (S : Setting) → ProperSetting S → (b : List ℕ)
 -- ---- how a board ends
 -- a board that a check before the verdicts refuses: "Verdicts are reached only on a board that no check before them refuses"
 abbrev pub RefusedBefore : Type 0
-RefusedBefore = (J : Judges) (S : Setting) (b : List ℕ) (k : ℕ) → FirstUnmet k (board_checks S b) → draw_in J S b ≡ Err k
+RefusedBefore = (J : Judges) (S : Setting) (b : List ℕ) (k : Refusal) → FirstUnmet k (board_checks S b) → draw_in J S b ≡ Err k
 
 abbrev pub SomeStuck : Judges → Setting → List ℕ → Type 0
 SomeStuck J S b = (d : ℕ) × (1 ≤ d) × (d ≤ S.n) × (verdict_on J S b d ≡ Accepted Stuck)
@@ -171,7 +172,7 @@ SameDraw A J = (S T : Setting) → ProperSetting S → ProperSetting T → OneGr
 -- whichever group of an accepted table it has, and the board judge answers what it answers there, so F holds of its answers: for two offices,
 -- each with a table and a round of its own, where the two rounds have one n and t, and each the same group under its number in its table
 pub record DrawOverRound (A : Asked) (J : Judges) (T : List ℕ) (R : Round) : Type 0 where
-  pub refuses : (b : List ℕ) (k : ℕ) → FirstUnmet k (round_checks T R) → draw_outcome J T R b ≡ Err k
+  pub refuses : (b : List ℕ) (k : Refusal) → FirstUnmet k (round_checks T R) → draw_outcome J T R b ≡ Err k
   pub proper : Met (round_checks T R) → ProperSetting (setting_in T R)
   pub draw-in : Met (round_checks T R) → (b : List ℕ) → draw_outcome J T R b ≡ draw_in J (setting_in T R) b
   pub same-draw : Met (round_checks T R) → (T' : List ℕ) (R' : Round) → Met (round_checks T' R') → OneGroup (setting_in T R) (setting_in T' R')

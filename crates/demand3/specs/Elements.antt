@@ -20,7 +20,7 @@ use Rattle.verdicts.specs.declared.Judgement.{Judgement}
 use Rattle.verdicts.specs.declared.Secret.TheVariants.{Opened, Recovered}
 use Rattle.verdicts.specs.declared.Verdict.{Verdict}
 use Rattle.verdicts.specs.declared.Verdict.TheVariants.{Accepted}
-use Rattle.rulings.specs.Ruling.{JudgementOf}
+use Rattle.rulings.specs.Ruling.{JudgementOf, verdicts_of}
 use Rattle.plots.specs.Picked.{plot_checks, pick_outcome}
 use Rattle.chain.specs.Chain.{links_in, chain_checks, chain_outcome, extend_outcome}
 use Rattle.words.specs.declared.refusal.Refusal.TheVariants.{BadLength, NoElement}
@@ -52,8 +52,8 @@ JudgesTakeElements = TakesElements judges
 
 -- so whatever the board judge answers over a table and a round lies in the round's group
 pub record ElementsAnswered (T : List ℕ) (R : Round) (b : List ℕ) : Type 0 where
-  pub secrets : (A : Judgement) → JudgementOf judges T R b A
-      → All (λ w. SecretElement (setting_in T R).group w.verdict) A.verdicts
+  pub secrets : (o : Outcome Judgement) → JudgementOf judges T R b o
+      → All (λ w. SecretElement (setting_in T R).group w.verdict) (verdicts_of o)
   pub draw : (v : Element) → draw_outcome judges T R b ≡ Ok v → is_element (setting_in T R).group v.0 ≡ true
 
 abbrev pub AnswersElements : Type 0

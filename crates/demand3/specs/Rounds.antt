@@ -4,6 +4,8 @@ use Rattle.std.specs.Prelude.{◌≡◌, true, List, ◌++◌, ℕ, ◌<◌, Err
 use Rattle.words.specs.Lists.{Distinct, all, map}
 use Rattle.words.specs.Checks.{Check, Outcome, outcome, Met, FirstUnmet, without}
 use Rattle.words.specs.Bytes.{records_in, record_at}
+use Rattle.words.specs.declared.refusal.Refusal.{Refusal}
+use Rattle.words.specs.declared.refusal.Refusal.TheVariants.{OtherRound, SameKey}
 use Rattle.group.specs.declared.Element.{Element}
 use Rattle.sharing.specs.Setting.{setting_in, round_checks, judged, judged_else, members}
 use Rattle.sharing.specs.declared.Round.{Round}
@@ -19,22 +21,22 @@ use Rattle.verdicts.specs.Draw.{count_accepted, draw_checks, draw_value, draw_in
 use Rattle.verdicts.specs.declared.Verdict.{Verdict}
 use Rattle.verdicts.specs.declared.DealerVerdict.{DealerVerdict}
 use Rattle.verdicts.specs.declared.Judgement.{Judgement}
-use Rattle.rulings.specs.Ruling.{JudgementOf, refused_board}
+use Rattle.rulings.specs.Ruling.{JudgementOf, verdicts_of, count_of}
 use Rattle.rulings.specs.Files.{round_in, file_checks}
 use Rattle.text.specs.Text.{refused_line, dealer_lines, accepted_line, draw_line, round_line, text_of, draw_text}
 
 -- ---- refused before the verdicts
 -- the board judge answers k and gives no verdict; where round.set holds the round and neither it nor the table is refused, `draw` prints
 -- one line
-pub record RefusedOver (J : Judges) (T : List ℕ) (R : Round) (b : List ℕ) (k : ℕ) : Type 0 where
+pub record RefusedOver (J : Judges) (T : List ℕ) (R : Round) (b : List ℕ) (k : Refusal) : Type 0 where
   pub draw : draw_outcome J T R b ≡ Err k
-  pub answer : (A : Judgement) → JudgementOf J T R b A → A ≡ refused_board k
+  pub answer : (o : Outcome Judgement) → JudgementOf J T R b o → o ≡ Err k
   pub text : (s : List ℕ) → Met (file_checks T s) → round_in s ≡ R → draw_text J T s b ≡ refused_line k
 
 -- by the first check of the table, the round and the board that is not met
 abbrev pub FirstRefusal : Type 0
 FirstRefusal =
-    (J : Judges) (T : List ℕ) (R : Round) (b : List ℕ) (k : ℕ) → FirstUnmet k (round_checks T R ++ board_checks (setting_in T R) b)
+    (J : Judges) (T : List ℕ) (R : Round) (b : List ℕ) (k : Refusal) → FirstUnmet k (round_checks T R ++ board_checks (setting_in T R) b)
     → RefusedOver J T R b k
 
 -- a record of another round: by 17 where nothing earlier refuses, which is the table, the round, the board's length, a record before it,
@@ -43,13 +45,13 @@ abbrev pub OtherRoundRefused : Type 0
 OtherRoundRefused =
     (J : Judges) (T : List ℕ) (R : Round) → Met (round_checks T R) → (b : List ℕ) (i : ℕ) → i < records_in b
     → Met (length_checks b ++ record_checks (setting_in T R) b 0 i) → is_shaped R.n (record_at b i) ≡ true
-    → (round_of (record_at b i) ≡ R.round → ⊥) → RefusedOver J T R b 17
+    → (round_of (record_at b i) ≡ R.round → ⊥) → RefusedOver J T R b OtherRound
 
 -- two members with one key: by 22 where nothing earlier refuses
 abbrev pub KeyTwiceRefused : Type 0
 KeyTwiceRefused =
     (J : Judges) (T : List ℕ) (R : Round) → Met (round_checks T R) → (b : List ℕ) → Met (form_checks (setting_in T R) b)
-    → all (has_key b) (members R.n) ≡ true → KeyTwice (setting_in T R).group (keys_in R.n b) → RefusedOver J T R b 22
+    → all (has_key b) (members R.n) ≡ true → KeyTwice (setting_in T R).group (keys_in R.n b) → RefusedOver J T R b SameKey
 
 -- ---- another board judge: what it refuses before the verdicts, the verdict on each dealer, what it refuses after them, and the draw value
 pub record BoardJudge : Type 0 where
@@ -95,8 +97,8 @@ pub record JudgedAs (B : BoardJudge) (S : Setting) (b : List ℕ) : Type 0 where
 -- over a table and a round: all that the board judge answers, and what `draw` prints where round.set holds the round
 pub record AnsweredAs (B : BoardJudge) (T : List ℕ) (R : Round) (b : List ℕ) : Type 0 where
   pub draw : draw_outcome judges T R b ≡ draw_over B T R b
-  pub verdicts : (A : Judgement) → JudgementOf judges T R b A → A.verdicts ≡ places_over B T R b
-  pub accepted : (A : Judgement) → JudgementOf judges T R b A → A.accepted ≡ count_over B T R b
+  pub verdicts : (o : Outcome Judgement) → JudgementOf judges T R b o → verdicts_of o ≡ places_over B T R b
+  pub accepted : (o : Outcome Judgement) → JudgementOf judges T R b o → count_of o ≡ count_over B T R b
   pub text : (s : List ℕ) → round_in s ≡ R → draw_text judges T s b ≡ text_over B T s b
 
 -- which is so where it is judged so in their setting
@@ -107,17 +109,17 @@ AnsweredBySetting =
 -- ---- distinct keys
 -- the board judge that leaves out every check by k, on the board and in the judge of dealings; neither the judge of shares nor the end of a
 -- board refuses by 22
-abbrev pub judges_without : ℕ → Judges
+abbrev pub judges_without : Refusal → Judges
 judges_without k = record { dealing = λ S d ys b. outcome (without k (judge_dealing_checks S d ys b)) tt; share = judge_share_in }
 
-abbrev pub board_without : ℕ → BoardJudge
+abbrev pub board_without : Refusal → BoardJudge
 board_without k =
     let J = judges_without k in
     record { before = λ S b. without k (board_checks S b); verdict = verdict_on J; end = draw_checks J; drawn = draw_value J }
 
 -- with distinct keys every board is judged as without 22, in any round
 abbrev pub DistinctBoard : Type 0
-DistinctBoard = (S : Setting) (b : List ℕ) → Distinct (keys_in S.n b) → JudgedAs (board_without 22) S b
+DistinctBoard = (S : Setting) (b : List ℕ) → Distinct (keys_in S.n b) → JudgedAs (board_without SameKey) S b
 
 abbrev pub DistinctOverRound : Type 0
-DistinctOverRound = (T : List ℕ) (R : Round) (b : List ℕ) → Distinct (keys_in R.n b) → AnsweredAs (board_without 22) T R b
+DistinctOverRound = (T : List ℕ) (R : Round) (b : List ℕ) → Distinct (keys_in R.n b) → AnsweredAs (board_without SameKey) T R b

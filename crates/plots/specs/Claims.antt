@@ -2,6 +2,7 @@
 use Rattle.std.specs.Prelude.{◌≡◌, Bool, true, false, List, ◌↔◌, ℕ, ◌≤◌, ◌<◌, eqb, ltb, length, take, Ok, Err}
 use Rattle.words.specs.Choice.{pick}
 use Rattle.words.specs.Lists.{All, Pairwise, Distinct, absent, up_from}
+use Rattle.words.specs.declared.refusal.Refusal.{Refusal}
 use Rattle.group.specs.declared.Element.{Element}
 use Rattle.plots.specs.Rank.{rank, comes_before}
 use Rattle.plots.specs.Picked.{sorted, picked, pick_outcome, lent_plots}
@@ -43,7 +44,7 @@ PickedStart = (v radius N k m : ℕ) → k ≤ m → take k (picked v radius N m
 pub record Lent (T : List ℕ) (number : ℕ) (v : Element) (radius N k : ℕ) (out : List ℕ) : Type 0 where
   pub passed : pick_outcome T number v radius N k (length out) ≡ Ok tt
       → (lent_plots T number v radius N k out ≡ picked v.0 radius N k) × IsPick v.0 radius N k (lent_plots T number v radius N k out)
-  pub kept : (i : ℕ) → pick_outcome T number v radius N k (length out) ≡ Err i → lent_plots T number v radius N k out ≡ out
+  pub kept : (i : Refusal) → pick_outcome T number v radius N k (length out) ≡ Err i → lent_plots T number v radius N k out ≡ out
 
 abbrev pub PickLent : Type 0
 PickLent = (T : List ℕ) (number : ℕ) (v : Element) (radius N k : ℕ) (out : List ℕ) → Lent T number v radius N k out

@@ -4,84 +4,42 @@
 
 ghost use Rattle.std.specs.Prelude.{◌≡◌};
 ghost use Rattle.words.specs.Checks.{outcome};
+ghost use Rattle.sharing.specs.Setting.{ProperSetting};
 ghost use Rattle.verdicts.specs.Shares.{judges};
 ghost use Rattle.rulings.specs.Files.{set_checks, file_checks, files_outcome};
-ghost use Rattle.rulings.specs.Ruling.{ProperAnswer, refused_board, refused_ruling, RulingIn, RulingOf, JudgementOf};
+ghost use Rattle.rulings.specs.Ruling.{JudgedIn, JudgementOf, RulingOf};
 
 use board::check_board;
 use group::check_table;
 use records::is_set_record;
-use sharing::{Round, setting_in, setting_of};
-use verdicts::{DealerVerdict, Judgement, Verdict, all_verdicts};
+use sharing::{Round, Setting, setting_in, setting_of};
+use verdicts::{Judgement, all_verdicts};
 use words::{Refusal, read_record};
 
-// The setting, where verdicts are reached, and the judgement on the board. Where a check before the verdicts refuses, both hold its number,
-// and there are no verdicts.
+// The setting, and the judgement on the board in it.
 #[derive(Clone, Copy)]
 pub struct Ruling {
-    pub setting: SettingAnswer,
+    pub setting: Setting,
     pub judgement: Judgement,
 }
 
-// The judgement where a check before the verdicts refuses.
-fn refused_board(k: u32) -> Judgement
-    ensures { result ≡ refused_board k }
+// Judges a board in a setting: 3, 4, 17, 5, 12, 6 and 22 as check_board, then its verdicts.
+// Internal: callers ensure that the setting is proper.
+fn judge_in(s: Setting, board: &[u8]) -> Result<Judgement, Refusal>
+    requires { ProperSetting s }
+    ensures { JudgedIn judges s board.now result }
 {
-    let none = DealerVerdict {
-        verdict: Verdict::None,
-    };
-    Judgement {
-        verdicts: [none; 31],
-        accepted: 0,
-        draw: Err(k),
-    }
+    check_board(s, board)?;
+    Ok(all_verdicts(s, board))
 }
 
-fn refused_ruling(k: u32) -> Ruling
-    ensures { result ≡ refused_ruling k }
-{
-    Ruling {
-        setting: Err(k),
-        judgement: refused_board(k),
-    }
-}
-
-// The ruling on a board by the answer that gives its setting, whose refusal is handed on; then 3, 4, 17, 5, 12, 6 and 22 as
-// check_board. Internal: callers ensure that the setting, where there is one, is proper.
-fn ruling_in(setting: SettingAnswer, board: &[u8]) -> Ruling
-    requires { ProperAnswer setting }
-    ensures { RulingIn judges (setting) board.now result }
-{
-    match setting {
-        Err(k) => refused_ruling(k),
-        Ok(s) => {
-            let k = check_board(s, board);
-            if k != 0 {
-                return refused_ruling(k);
-            }
-            Ruling {
-                setting,
-                judgement: all_verdicts(s, board),
-            }
-        }
-    }
-}
-
-// Judges a board. Refused, with no verdict: as setting_of; 3, 4, 17, 5, 12, 6 and 22 as check_board. After all verdicts: 14
-// fewer than t accepted dealings; 13 a stuck dealing, where fewer than t added shares are accepted.
-pub fn judge_board(table: &[u8], rd: Round, board: &[u8]) -> Judgement
+// Judges a board. Refused, with no verdict: as setting_of; 3, 4, 17, 5, 12, 6 and 22 as check_board. In the judgement's draw, after all
+// verdicts: 14 fewer than t accepted dealings; 13 a stuck dealing, where fewer than t added shares are accepted.
+pub fn judge_board(table: &[u8], rd: Round, board: &[u8]) -> Result<Judgement, Refusal>
     ensures { JudgementOf judges table.now rd board.now result }
 {
-    match setting_of(table, rd) {
-        Err(k) => refused_board(k),
-        Ok(s) => {
-            let k = check_board(s, board);
-            if k != 0 {
-                return refused_board(k);
-            }
-            all_verdicts(s, board)
-        }
-    }
+    let s = setting_of(table, rd)?;
+    judge_in(s, board)
 }
 
 // What the bytes of round.set are refused by: 3 not one record; 4 another shape.
@@ -123,9 +81,11 @@ fn files_setting(table: &[u8], set: &[u8]) -> Result<Setting, Refusal>
 }
 
 // Judges the bytes of groups.tab, of round.set and of board.bin. Refused, with no verdict: as files_setting; 3, 4, 17, 5, 12, 6 and 22 as
-// check_board. After all verdicts as judge_board.
-pub fn judge_files(table: &[u8], set: &[u8], board: &[u8]) -> Ruling
+// check_board. In the judgement's draw, after all verdicts, as judge_board.
+pub fn judge_files(table: &[u8], set: &[u8], board: &[u8]) -> Result<Ruling, Refusal>
     ensures { RulingOf judges table.now set.now board.now result }
 {
-    ruling_in(files_setting(table, set), board)
+    let setting = files_setting(table, set)?;
+    let judgement = judge_in(setting, board)?;
+    Ok(Ruling { setting, judgement })
 }

@@ -3,6 +3,8 @@ use Rattle.std.specs.Prelude.{◌≡◌, ℕ, ◌+◌, ◌%◌, ◌^◌, ◌<◌
 use Rattle.words.specs.Lists.{Below}
 use Rattle.words.specs.Bytes.{record_words}
 use Rattle.words.specs.declared.Record.{Record}
+use Rattle.words.specs.declared.refusal.Refusal.{Refusal}
+use Rattle.words.specs.declared.refusal.Refusal.TheVariants.{BadLength}
 use Rattle.sha256.specs.Padding.{zero_bits, pad}
 use Rattle.sha256.specs.Hash.{hash_value, hash}
 use Rattle.sha256.specs.Answer.{digest_outcome}
@@ -47,4 +49,4 @@ DigestValue = (m : List ℕ) (r : Record) → (digest_outcome m ≡ Ok r) ↔ ((
 
 -- a message is refused exactly if it is too long, and by 3 alone
 abbrev pub DigestRefused : Type 0
-DigestRefused = (m : List ℕ) (k : ℕ) → (digest_outcome m ≡ Err k) ↔ ((65536 < length m) × (k ≡ 3))
+DigestRefused = (m : List ℕ) (k : Refusal) → (digest_outcome m ≡ Err k) ↔ ((65536 < length m) × (k ≡ BadLength))

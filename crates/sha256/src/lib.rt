@@ -13,16 +13,9 @@ mod word;
 pub use state::State;
 use words::{Record, Refusal};
 
-// The digest as eight words, or the number of a refusal.
-#[derive(Clone, Copy)]
-pub enum DigestAnswer {
-    Value(Record),
-    Refused(u32),
-}
-
 // The digest of a message of at most 65,536 bytes; a longer one is refused 3.
 pub fn digest(s: &[u8]) -> Result<Record, Refusal>
-    ensures { outcome_of result ≡ digest_outcome s.now }
+    ensures { result ≡ digest_outcome s.now }
 {
     if 65536 < s.len() {
         return Err(Refusal::BadLength);

@@ -17,6 +17,7 @@ use Rattle.share.specs.declared.ShareForm.{ShareForm}
 use Rattle.share.specs.Share.{opened_form, added_form, is_dealer, key_of, share_of, written_share, write_share_in, write_share_outcome, lent_after_share_in, lent_after_share}
 use Rattle.share.specs.Share.{members_checks, share_input_checks, is_share_for, share_recomputed, judge_share_figures_in, judge_share_in, judge_share_outcome}
 use Rattle.words.specs.declared.refusal.Refusal.TheVariants.{NoMember, OtherRound}
+use Rattle.words.specs.declared.refusal.Refusal.{Refusal}
 
 -- ---- the two forms
 -- by 8 an opened share is refused for its dealer or its member, and an added share for its member alone
@@ -99,7 +100,7 @@ LentShare =
 -- and stay as they were where a number is refused
 abbrev pub LentShareKept : Type 0
 LentShareKept =
-    (S : Setting) (F : ShareForm) (i Y x w : ℕ) (out : List ℕ) (k : ℕ) → write_share_in S F i Y x w (length out) ≡ Err k
+    (S : Setting) (F : ShareForm) (i Y x w : ℕ) (out : List ℕ) (k : Refusal) → write_share_in S F i Y x w (length out) ≡ Err k
     → lent_after_share_in S F i Y x w out ≡ out
 
 -- the share of Y = y^e is h^e: with e the polynomial's value it is true
@@ -116,7 +117,7 @@ pub record ShareByRound (T : List ℕ) (R : Round) : Type 0 where
       → (write_share_outcome T R F i Y x w room ≡ Ok tt) ↔ (Met (round_checks T R) × (write_share_in (setting_in T R) F i Y x w room ≡ Ok tt))
   pub lent : (F : ShareForm) (i Y x w : ℕ) (out : List ℕ) → Met (round_checks T R)
       → lent_after_share T R F i Y x w out ≡ lent_after_share_in (setting_in T R) F i Y x w out
-  pub kept : (F : ShareForm) (i Y x w : ℕ) (out : List ℕ) (k : ℕ) → write_share_outcome T R F i Y x w (length out) ≡ Err k
+  pub kept : (F : ShareForm) (i Y x w : ℕ) (out : List ℕ) (k : Refusal) → write_share_outcome T R F i Y x w (length out) ≡ Err k
       → lent_after_share T R F i Y x w out ≡ out
   -- what is written is accepted by a judge that takes the same figures of the round: its number, and the first round under the new rule
   pub complete : R.round < 2 ^ 32 → (F : ShareForm) → F.kind < 2 ^ 32 → (i Y x w : ℕ) (out : List ℕ)

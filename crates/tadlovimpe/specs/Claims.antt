@@ -1,7 +1,9 @@
 -- What is claimed of the answers that have more than one figure: on a refusal the others are 0, but for the count and the verdicts of a
 -- board that was judged. The proofs are in proofs/Refusals.antt.
 use Rattle.std.specs.Prelude.{◌≡◌, List, ◌++◌, ◌↔◌, ℕ, replicate, Ok}
+use Rattle.words.specs.Numbers.{number}
 use Rattle.words.specs.Checks.{Outcome, FirstUnmet}
+use Rattle.words.specs.declared.refusal.Refusal.{Refusal}
 use Rattle.group.specs.declared.Element.{Element}
 use Rattle.sharing.specs.Setting.{setting_in, round_checks}
 use Rattle.sharing.specs.declared.Round.{Round}
@@ -31,12 +33,12 @@ BoardRefused = (J : Judges) (T : List ℕ) (R : Round) (b : List ℕ) → ((boar
 
 -- where a check of the table, the round or the board refuses, nothing is counted and no dealer has a verdict. (A refusal after the
 -- verdicts, by 14 or 13, leaves both.)
-pub record NoVerdicts (k : ℕ) (A : BoardAnswer) : Type 0 where
-  pub number : A.refusal ≡ k
+pub record NoVerdicts (k : Refusal) (A : BoardAnswer) : Type 0 where
+  pub number : A.refusal ≡ number k
   pub none-counted : A.accepted ≡ 0
   pub none-judged : A.verdicts ≡ replicate 31 (record { kind = 0; value = 0 })
 
 abbrev pub BoardUnmet : Type 0
 BoardUnmet =
-    (J : Judges) (T : List ℕ) (R : Round) (b : List ℕ) (k : ℕ) → FirstUnmet k (round_checks T R ++ board_checks (setting_in T R) b)
+    (J : Judges) (T : List ℕ) (R : Round) (b : List ℕ) (k : Refusal) → FirstUnmet k (round_checks T R ++ board_checks (setting_in T R) b)
     → NoVerdicts k (board_on J T R b)

@@ -1,6 +1,7 @@
 -- The operations' answers as the figures that a caller is handed, and figures as the operations take them.
 use Rattle.std.specs.Prelude.{List, ℕ, length, Ok, Err}
 use Rattle.words.specs.Lists.{map}
+use Rattle.words.specs.Numbers.{number}
 use Rattle.words.specs.Checks.{Outcome}
 use Rattle.group.specs.declared.Element.{Element}
 use Rattle.group.specs.declared.Exponent.{Exponent}
@@ -44,15 +45,15 @@ equality_of P =
 -- the number of a refusal, 0 where there is none
 abbrev pub number_of : {A : Type 0} → Outcome A → ℕ
 number_of (Ok a) = 0
-number_of (Err k) = k
+number_of (Err k) = number k
 
 abbrev pub answer_of : Outcome Element → Answer
 answer_of (Ok v) = record { refusal = 0; value = v.0 }
-answer_of (Err k) = record { refusal = k; value = 0 }
+answer_of (Err k) = record { refusal = number k; value = 0 }
 
 abbrev pub verdict_of : Verdict → VerdictFigures
 verdict_of None = record { kind = 0; value = 0 }
-verdict_of (Refused k) = record { kind = 1; value = k }
+verdict_of (Refused k) = record { kind = 1; value = number k }
 verdict_of (Accepted (Opened v)) = record { kind = 2; value = v.0 }
 verdict_of (Accepted (Recovered v)) = record { kind = 3; value = v.0 }
 verdict_of (Accepted Stuck) = record { kind = 4; value = 0 }
@@ -63,7 +64,7 @@ place_of p = verdict_of p.verdict
 -- a dealer's lines: how many bytes behind the board's start they begin, and how many bytes they are
 abbrev pub part_of : Outcome (Unit {0}) → ℕ → ℕ → Part
 part_of (Ok _) start bytes = record { refusal = 0; start = start; length = bytes }
-part_of (Err k) start bytes = record { refusal = k; start = 0; length = 0 }
+part_of (Err k) start bytes = record { refusal = number k; start = 0; length = 0 }
 
 -- the lines of dealer d on the board b
 abbrev pub part_on : List ℕ → Round → ℕ → List ℕ → Part

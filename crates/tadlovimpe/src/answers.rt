@@ -4,49 +4,49 @@ ghost use Rattle.words.specs.Lists.{map};
 ghost use Rattle.tadlovimpe.specs.Figures.{number_of, answer_of, verdict_of, place_of};
 
 use crate::{Answer, VerdictFigures};
+use group::Element;
 use verdicts::{DealerVerdict, Secret, Verdict};
+use words::Refusal;
 
-pub(crate) fn number_of(a: CheckAnswer) -> u32
-    ensures { result ≡ number_of (check_outcome_of a) }
+// The number of a refusal, 0 where there is none.
+pub(crate) fn number_of(a: Result<(), Refusal>) -> u32
+    ensures { result ≡ number_of a }
 {
     match a {
         Ok(()) => 0,
-        Err(k) => k,
+        Err(refusal) => u32::from(refusal),
     }
 }
 
-pub(crate) fn answer_of(a: ElementAnswer) -> Answer
-    ensures { result ≡ answer_of (element_outcome_of a) }
-{
-    match a {
-        Ok(v) => Answer {
-            refusal: 0,
-            value: v.0,
-        },
-        Err(k) => Answer {
-            refusal: k,
-            value: 0,
-        },
+impl From<Result<Element, Refusal>> for Answer {
+    ghost from_gives = { λ a figures. figures ≡ answer_of a };
+
+    fn from(a: Result<Element, Refusal>) -> Answer {
+        match a {
+            Ok(v) => Answer {
+                refusal: 0,
+                value: v.0,
+            },
+            Err(refusal) => Answer {
+                refusal: u32::from(refusal),
+                value: 0,
+            },
+        }
     }
 }
 
-fn verdict_of(v: Verdict) -> VerdictFigures
-    ensures { result ≡ verdict_of v }
-{
-    match v {
-        Verdict::None => VerdictFigures { kind: 0, value: 0 },
-        Verdict::Refused(k) => VerdictFigures { kind: 1, value: k },
-        Verdict::Accepted(s) => match s {
-            Secret::Opened(x) => VerdictFigures {
-                kind: 2,
-                value: x.0,
-            },
-            Secret::Recovered(x) => VerdictFigures {
-                kind: 3,
-                value: x.0,
-            },
-            Secret::Stuck => VerdictFigures { kind: 4, value: 0 },
-        },
+impl From<Verdict> for VerdictFigures {
+    ghost from_gives = { λ v figures. figures ≡ verdict_of v };
+
+    fn from(v: Verdict) -> VerdictFigures {
+        let (kind, value) = match v {
+            Verdict::None => (0, 0),
+            Verdict::Refused(refusal) => (1, u32::from(refusal)),
+            Verdict::Accepted(Secret::Opened(x)) => (2, x.0),
+            Verdict::Accepted(Secret::Recovered(x)) => (3, x.0),
+            Verdict::Accepted(Secret::Stuck) => (4, 0),
+        };
+        VerdictFigures { kind, value }
     }
 }
 
@@ -59,7 +59,7 @@ pub(crate) fn verdicts_of(places: [DealerVerdict; 31]) -> [VerdictFigures; 31]
     while i < 31 {
         let place = places[i];
         let v = place.verdict;
-        vs[i] = verdict_of(v);
+        vs[i] = VerdictFigures::from(v);
         i += 1;
     }
     vs

@@ -8,10 +8,27 @@ ghost use Rattle.group.specs.Answer.{power_outcome};
 ghost use Rattle.equality.specs.Equality.{equality_outcome};
 ghost use Rattle.tadlovimpe.specs.Figures.{element_of, exponent_of, equality_of, number_of, answer_of};
 
-use crate::answers::{answer_of, number_of};
+use crate::answers::number_of;
 use crate::{Answer, Proof};
 use equality::Equality;
 use group::{Element, Exponent};
+
+impl From<Proof> for Equality {
+    ghost from_gives = { λ proof e. e ≡ equality_of proof };
+
+    fn from(proof: Proof) -> Equality {
+        Equality {
+            b1: Element(proof.b1),
+            x1: Element(proof.x1),
+            b2: Element(proof.b2),
+            x2: Element(proof.x2),
+            a1: Element(proof.a1),
+            a2: Element(proof.a2),
+            c: Exponent(proof.c),
+            r: Exponent(proof.r),
+        }
+    }
+}
 
 // sha256::digest. `out` is kept where something is refused.
 #[unsafe(no_mangle)]
@@ -24,7 +41,7 @@ pub extern "C" fn tadlovimpe_digest(message: &[u8], out: &mut [u8; 32]) -> u32
             words::write_record(out, d);
             0
         }
-        Err(k) => k,
+        Err(refusal) => u32::from(refusal),
     }
 }
 
@@ -33,7 +50,7 @@ pub extern "C" fn tadlovimpe_digest(message: &[u8], out: &mut [u8; 32]) -> u32
 pub extern "C" fn tadlovimpe_power(table: &[u8], group: u32, base: u32, exponent: u32) -> Answer
     ensures { result ≡ answer_of (power_outcome table.now group (element_of base) (exponent_of exponent)) }
 {
-    answer_of(group::power(table, group, Element(base), Exponent(exponent)))
+    Answer::from(group::power(table, group, Element(base), Exponent(exponent)))
 }
 
 // equality::equality_check
@@ -41,15 +58,5 @@ pub extern "C" fn tadlovimpe_power(table: &[u8], group: u32, base: u32, exponent
 pub extern "C" fn tadlovimpe_equality_check(table: &[u8], group: u32, proof: Proof) -> u32
     ensures { result ≡ number_of (equality_outcome table.now group (equality_of proof)) }
 {
-    let e = Equality {
-        b1: Element(proof.b1),
-        x1: Element(proof.x1),
-        b2: Element(proof.b2),
-        x2: Element(proof.x2),
-        a1: Element(proof.a1),
-        a2: Element(proof.a2),
-        c: Exponent(proof.c),
-        r: Exponent(proof.r),
-    };
-    number_of(equality::equality_check(table, group, e))
+    number_of(equality::equality_check(table, group, Equality::from(proof)))
 }

@@ -5,8 +5,8 @@ ghost use Rattle.verdicts.specs.Shares.{judges};
 ghost use Rattle.text.specs.Text.{draw_text};
 ghost use Rattle.tadlovimpe.specs.Figures.{number_of, part_on, board_on};
 
-use crate::answers::{answer_of, number_of, verdicts_of};
-use crate::{BoardAnswer, Part};
+use crate::answers::{number_of, verdicts_of};
+use crate::{Answer, BoardAnswer, Part, VerdictFigures};
 use board::{lines_check, lines_of, place_of};
 use records::LINE;
 use sharing::Round;
@@ -35,8 +35,8 @@ pub extern "C" fn tadlovimpe_dealer_lines(
     ensures { result ≡ part_on table.now round dealer board.now }
 {
     match lines_check(table, round, dealer, board) {
-        Err(k) => Part {
-            refusal: k,
+        Err(refusal) => Part {
+            refusal: u32::from(refusal),
             start: 0,
             length: 0,
         },
@@ -57,16 +57,22 @@ pub extern "C" fn tadlovimpe_dealer_lines(
 pub extern "C" fn tadlovimpe_judge_board(table: &[u8], round: Round, board: &[u8]) -> BoardAnswer
     ensures { result ≡ board_on judges table.now round board.now }
 {
-    let judged = rulings::judge_board(table, round, board);
-    let places = judged.verdicts;
-    let draw = judged.draw;
-    let a = answer_of(draw);
-    let vs = verdicts_of(places);
-    BoardAnswer {
-        refusal: a.refusal,
-        value: a.value,
-        accepted: judged.accepted,
-        verdicts: vs,
+    match rulings::judge_board(table, round, board) {
+        Err(refusal) => BoardAnswer {
+            refusal: u32::from(refusal),
+            value: 0,
+            accepted: 0,
+            verdicts: [VerdictFigures { kind: 0, value: 0 }; 31],
+        },
+        Ok(judged) => {
+            let draw = Answer::from(judged.draw);
+            BoardAnswer {
+                refusal: draw.refusal,
+                value: draw.value,
+                accepted: judged.accepted,
+                verdicts: verdicts_of(judged.verdicts),
+            }
+        }
     }
 }
 

@@ -4,7 +4,7 @@ ghost use Rattle.sharing.specs.Answer.{degree_outcome, opening_outcome, recovery
 ghost use Rattle.tadlovimpe.specs.Figures.{number_of, answer_of};
 
 use crate::Answer;
-use crate::answers::{answer_of, number_of};
+use crate::answers::number_of;
 use group::Exponent;
 use sharing::Round;
 
@@ -39,5 +39,5 @@ pub extern "C" fn tadlovimpe_recovery(
 ) -> Answer
     ensures { result ≡ answer_of (recovery_outcome table.now round members.now shares.now) }
 {
-    answer_of(sharing::recovery(table, round, members, shares))
+    Answer::from(sharing::recovery(table, round, members, shares))
 }

@@ -5,7 +5,7 @@ ghost use Rattle.share.specs.Share.{opened_form, added_form, judge_share_outcome
 ghost use Rattle.tadlovimpe.specs.Figures.{number_of, answer_of};
 
 use crate::Answer;
-use crate::answers::{answer_of, number_of};
+use crate::answers::number_of;
 use group::{Element, Exponent};
 use sharing::Round;
 
@@ -80,7 +80,7 @@ pub extern "C" fn tadlovimpe_judge_share(
 {
     let y = Element(key);
     let e = Element(encrypted);
-    answer_of(share::judge_share(table, round, dealer, member, y, e, share))
+    Answer::from(share::judge_share(table, round, dealer, member, y, e, share))
 }
 
 // share::write_added
@@ -117,5 +117,5 @@ pub extern "C" fn tadlovimpe_judge_added(
 {
     let y = Element(key);
     let e = Element(encrypted);
-    answer_of(share::judge_added(table, round, member, y, e, share))
+    Answer::from(share::judge_added(table, round, member, y, e, share))
 }

@@ -1,6 +1,7 @@
 -- What is claimed of the text that `draw` prints.
 use Rattle.std.specs.Prelude.{◌≡◌, List, [], ◌∷◌, ◌++◌, ℕ, ◌≤◌, length}
 use Rattle.words.specs.Checks.{Met, FirstUnmet}
+use Rattle.words.specs.declared.refusal.Refusal.{Refusal}
 use Rattle.words.specs.Bytes.{record_bytes}
 use Rattle.group.specs.Table.{groups_of, table_checks}
 use Rattle.records.specs.Layout.{key_layout, set_layout}
@@ -14,11 +15,11 @@ TextFits = (J : Judges) (T s b : List ℕ) → length (draw_text J T s b) ≤ 10
 
 -- where a check before the verdicts refuses, of the table, the set, their round or the board, its line is the whole text
 abbrev pub TextRefused : Type 0
-TextRefused = (J : Judges) (T s b : List ℕ) (k : ℕ) → FirstUnmet k (ruling_checks T s b) → draw_text J T s b ≡ refused_line k
+TextRefused = (J : Judges) (T s b : List ℕ) (k : Refusal) → FirstUnmet k (ruling_checks T s b) → draw_text J T s b ≡ refused_line k
 
 -- a table that is refused gives one line, whatever the other files hold
 abbrev pub TableFirst : Type 0
-TableFirst = (J : Judges) (T s b : List ℕ) (k : ℕ) → FirstUnmet k (table_checks T) → draw_text J T s b ≡ refused_line k
+TableFirst = (J : Judges) (T s b : List ℕ) (k : Refusal) → FirstUnmet k (table_checks T) → draw_text J T s b ≡ refused_line k
 
 -- of an accepted table nothing but its groups enters the text; so a table of the built-in groups gives that of no bytes
 abbrev pub TextByGroups : Type 0

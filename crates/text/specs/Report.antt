@@ -19,4 +19,4 @@ verdicts_at n ws = map verdict_at (take n ws)
 unfoldable pub report_from : Setting → Judgement → List ℕ
 report_from S A =
     round_line S
-    ++ (dealer_lines 1 (verdicts_at S.n A.verdicts) ++ (accepted_line A.accepted ++ draw_line (A.draw)))
+    ++ (dealer_lines 1 (verdicts_at S.n A.verdicts) ++ (accepted_line A.accepted ++ draw_line A.draw))

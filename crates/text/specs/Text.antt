@@ -1,7 +1,9 @@
 -- What `draw` prints: the one place where the format of its output stands.
 use Rattle.std.specs.Prelude.{List, [], ◌∷◌, ◌++◌, ℕ, zero, suc, ◌+◌, ◌/◌, ◌%◌, ltb, Ok, Err}
 use Rattle.words.specs.Choice.{pick}
+use Rattle.words.specs.Numbers.{number}
 use Rattle.words.specs.Checks.{Outcome, outcome}
+use Rattle.words.specs.declared.refusal.Refusal.{Refusal}
 use Rattle.group.specs.declared.Element.{Element}
 use Rattle.sharing.specs.Setting.{judged}
 use Rattle.sharing.specs.declared.Round.{Round}
@@ -58,9 +60,9 @@ abbrev pub stuck_word : List ℕ
 stuck_word = 115 ∷ 116 ∷ 117 ∷ 99 ∷ 107 ∷ []
 
 -- ---- lines
--- a refusal by the number k
-unfoldable pub refused_line : ℕ → List ℕ
-refused_line k = refused_word ++ (figure k ++ new_line)
+-- a refusal, by its number
+unfoldable pub refused_line : Refusal → List ℕ
+refused_line k = refused_word ++ (figure (number k) ++ new_line)
 
 -- how the secret of an accepted dealing came, and its value
 abbrev pub secret_text : Secret → List ℕ
@@ -71,7 +73,7 @@ secret_text Stuck = stuck_word
 -- a verdict: none, refused with its number, or how the secret came
 abbrev pub verdict_text : Verdict → List ℕ
 verdict_text None = none_word
-verdict_text (Refused k) = refused_word ++ figure k
+verdict_text (Refused k) = refused_word ++ figure (number k)
 verdict_text (Accepted s) = secret_text s
 
 -- the verdict on the dealer d

@@ -9,7 +9,7 @@ mod buffer;
 mod line;
 mod report;
 
-use line::put_line;
+use line::put_refused;
 use report::put_report;
 use rulings::judge_files;
 
@@ -19,10 +19,8 @@ pub fn draw_text(table: &[u8], set: &[u8], board: &[u8], out: &mut [u8; 1024]) -
     ensures { (result ≡ length (draw_text judges table.now set.now board.now))
         × (out.new ≡ draw_text judges table.now set.now board.now ++ drop result out.old) }
 {
-    let ruling = judge_files(table, set, board);
-    let setting = ruling.setting;
-    match setting {
-        Err(k) => put_line(out, 0, b"refused", k),
-        Ok(s) => put_report(out, s, ruling.judgement),
+    match judge_files(table, set, board) {
+        Err(refusal) => put_refused(out, 0, refusal),
+        Ok(ruling) => put_report(out, ruling.setting, ruling.judgement),
     }
 }

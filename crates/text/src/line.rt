@@ -1,11 +1,13 @@
 // The lines of the text. Each function answers the place behind what it wrote.
 ghost use Rattle.std.specs.Prelude.{◌++◌};
-ghost use Rattle.text.specs.Text.{figure, new_line, secret_text, verdict_text, dealer_line, draw_line, round_line};
+ghost use Rattle.text.specs.Text.{figure, new_line, refused_line, secret_text, verdict_text, dealer_line, draw_line, round_line};
 ghost use Rattle.text.specs.Buffer.{Room, Written};
 
 use crate::buffer::{put_bytes, put_figure};
+use group::Element;
 use sharing::Setting;
 use verdicts::{Secret, Verdict};
+use words::Refusal;
 
 // Writes a word and a figure from `at` on. Internal: callers ensure room for them.
 fn put_worded(out: &mut [u8], at: usize, word: &[u8], v: u32) -> usize
@@ -23,6 +25,14 @@ pub(crate) fn put_line(out: &mut [u8], at: usize, word: &[u8], v: u32) -> usize
 {
     let next = put_worded(out, at, word, v);
     put_bytes(out, next, b"\n")
+}
+
+// Writes the line of a refusal from `at` on. Internal: callers ensure room for it.
+pub(crate) fn put_refused(out: &mut [u8], at: usize, refusal: Refusal) -> usize
+    requires { Room at (refused_line refusal) out.old }
+    ensures { Written at (refused_line refusal) out.old out.new result }
+{
+    put_line(out, at, b"refused", u32::from(refusal))
 }
 
 // Writes how a secret came, and its value, from `at` on. Internal: callers ensure room for it.
@@ -44,7 +54,7 @@ fn put_verdict(out: &mut [u8], at: usize, v: Verdict) -> usize
 {
     match v {
         Verdict::None => put_bytes(out, at, b"none"),
-        Verdict::Refused(k) => put_worded(out, at, b"refused", k),
+        Verdict::Refused(refusal) => put_worded(out, at, b"refused", u32::from(refusal)),
         Verdict::Accepted(s) => put_secret(out, at, s),
     }
 }
@@ -72,12 +82,12 @@ pub(crate) fn put_round(out: &mut [u8], at: usize, s: Setting) -> usize
 }
 
 // Writes the last line from `at` on. Internal: callers ensure room for it.
-pub(crate) fn put_draw(out: &mut [u8], at: usize, draw: ElementAnswer) -> usize
-    requires { Room at (draw_line (draw)) out.old }
-    ensures { Written at (draw_line (draw)) out.old out.new result }
+pub(crate) fn put_draw(out: &mut [u8], at: usize, draw: Result<Element, Refusal>) -> usize
+    requires { Room at (draw_line draw) out.old }
+    ensures { Written at (draw_line draw) out.old out.new result }
 {
     match draw {
         Ok(v) => put_line(out, at, b"draw", v.0),
-        Err(k) => put_line(out, at, b"refused", k),
+        Err(refusal) => put_refused(out, at, refusal),
     }
 }

@@ -8,6 +8,7 @@ mod verdicts;
 
 use group::Element;
 pub use judge::all_verdicts;
+use words::Refusal;
 
 // How the secret of an accepted dealing came.
 #[derive(Clone, Copy)]
@@ -20,7 +21,7 @@ pub enum Secret {
 #[derive(Clone, Copy)]
 pub enum Verdict {
     None,
-    Refused(u32),
+    Refused(Refusal),
     Accepted(Secret),
 }
 
@@ -50,5 +51,5 @@ pub struct MemberProducts {
 pub struct Judgement {
     pub verdicts: [DealerVerdict; 31],
     pub accepted: u32,
-    pub draw: ElementAnswer,
+    pub draw: Result<Element, Refusal>,
 }

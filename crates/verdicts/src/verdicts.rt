@@ -82,11 +82,8 @@ pub(crate) fn verdict(s: Setting, ys: &[u32], b: &[u8], d: u32) -> Verdict
     if count != s.n as usize {
         return Verdict::Refused(Refusal::Incomplete);
     }
-    let judged = judge_lines(s, d, ys, lines);
-    let answer = judged.answer;
-    let figures = judged.figures;
-    match answer {
+    match judge_lines(s, d, ys, lines) {
         Err(k) => Verdict::Refused(k),
-        Ok(()) => Verdict::Accepted(secret(s, b, d, figures)),
+        Ok(figures) => Verdict::Accepted(secret(s, b, d, figures)),
     }
 }
