@@ -22,6 +22,7 @@ use Rattle.chain.specs.Chain.{links_in, figures_at, digest_at, digest_after, cha
 use Rattle.chain.specs.Claims.{AcceptedChain, DrawValue, IsChain, ExtendLent, GroupNotHashed}
 use Rattle.chain.proofs.Accepted.{draw-value, each_more, LinkAt, accepted-exactly, number_word, value-word, SameLinks, same_after, link-same, same-link, start-links}
 use Rattle.std.specs.Prelude.{Ok, Err}
+use Rattle.words.specs.declared.refusal.Refusal.{Refusal}
 
 -- ---- what the checks settle
 record Extendable (T b : List ℕ) (number v : ℕ) : Type 0 where
@@ -51,7 +52,7 @@ module _ (T b : List ℕ) (number v : ℕ) (out : List ℕ) (e : extend_outcome 
   unfolding lent_link
   lent-next = if-met (next_link b number v) out (extend_checks T b number v (length out)) met
 
-kept : (T b : List ℕ) (number v : ℕ) (out : List ℕ) (k : ℕ) → extend_outcome T b number v (length out) ≡ Err k → lent_link T b number v out ≡ out
+kept : (T b : List ℕ) (number v : ℕ) (out : List ℕ) (k : Refusal) → extend_outcome T b number v (length out) ≡ Err k → lent_link T b number v out ≡ out
 unfolding extend_outcome lent_link
 kept T b number v out k e =
     let cs = extend_checks T b number v (length out) in

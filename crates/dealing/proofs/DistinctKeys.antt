@@ -18,9 +18,10 @@ use Rattle.dealing.specs.Dealing.{judge_size_checks, dealing_form_checks, range_
 use Rattle.dealing.specs.Claims.{DistinctKeys, JudgedDistinct}
 use Rattle.std.specs.Prelude.{Err}
 use Rattle.words.specs.declared.refusal.Refusal.TheVariants.{SameKey}
+use Rattle.words.specs.declared.refusal.Refusal.{Refusal}
 
 -- ---- an operation over a table and a round, where each of its own checks of the number k is met
-module _ {A : Type 0} (k : ℕ) (T : List ℕ) (R : Round) (checks : Setting → List Check) (answer : Setting → A) (m : MetBy k (checks (setting_in T R))) where
+module _ {A : Type 0} (k : Refusal) (T : List ℕ) (R : Round) (checks : Setting → List Check) (answer : Setting → A) (m : MetBy k (checks (setting_in T R))) where
   abbrev front : List Check
   front = round_checks T R
 

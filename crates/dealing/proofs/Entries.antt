@@ -20,6 +20,7 @@ use Rattle.lines.specs.Columns.{columns_of}
 use Rattle.lines.specs.declared.Columns.{Columns}
 use Rattle.dealing.specs.Dealing.{recomputed, range_checks, equation_checks, figure_checks, line_figure_checks}
 use Rattle.dealing.specs.Columns.{column_checks}
+use Rattle.words.specs.declared.refusal.Refusal.TheVariants.{NoElement, NoExponent, DegreeFails, ProofFails}
 
 -- ---- what figures that agree tell alike
 module _ (S : Setting) (d : ℕ) {v Y v' Y' : ℕ → ℕ} (p : Agree S.n v v') (q : Agree S.n Y Y') where
@@ -59,10 +60,10 @@ module _ (S : Setting) (d : ℕ) {v Y v' Y' : ℕ → ℕ} (p : Agree S.n v v') 
         let vs = map_same v v' (members S.n) (each-members (λ i. v i ≡ v' i) S.n p.at) in
         let ten = tests_same _ _ S.n (λ i h l j. eqb (t.at i h l j) (recomputed-same j)) in
         λ j.
-        6 unless (v-test j && Y-test j)
-        ∷ 7 unless (r-test j && c-test j)
-        ∷ 9 unless eqb (degree_product S (vs j) (polynomial-same j)) 1
-        ∷ 10 unless ten j
+        NoElement unless (v-test j && Y-test j)
+        ∷ NoExponent unless (r-test j && c-test j)
+        ∷ DegreeFails unless eqb (degree_product S (vs j) (polynomial-same j)) 1
+        ∷ ProofFails unless ten j
         ∷ []
 
 -- the columns of lines are checked as the lines are

@@ -52,7 +52,7 @@ use Rattle.demand3.specs.Filed.{filed_shaped, filed_end_checks, filed_record_che
 use Rattle.demand3.proofs.Endings.{refused-before}
 use Rattle.demand3.proofs.SameJudges.{same-verdict}
 use Rattle.demand3.proofs.Rounds.{first-refusal, answered-by-setting}
-use Rattle.words.specs.declared.refusal.Refusal.TheVariants.{SameKey}
+use Rattle.words.specs.declared.refusal.Refusal.TheVariants.{SameKey, BadLength, BadForm, NoElement, NoExponent, DegreeFails, ProofFails, Incomplete, StillStuck, TooFew}
 
 -- ---- round 0
 -- the test of word 7, which holds
@@ -73,8 +73,8 @@ module _ (S : Setting) (z : S.round ≡ 0) (o : S.whole_digest ≡ false) where
       let ds = map (λ k. filed-exponent (m.coefficient (v_in b) (Y_in b) k) j) (up_from 0 (S.n - S.t)) in
       let a1 : ℕ → ℕ = λ i. announced G G.g.0 (v_in b i) (c_in b i) (r_in b i) in
       let a2 : ℕ → ℕ = λ i. announced G (entry ys i) (Y_in b i) (c_in b i) (r_in b i) in
-      9 unless eqb (degree_product S (map (v_in b) (members S.n)) ds) 1
-      ∷ 10 unless all (λ i. eqb (c_in b i) (filed-exponent (m.dealing (v_in b) (Y_in b) a1 a2) j)) (members S.n)
+      DegreeFails unless eqb (degree_product S (map (v_in b) (members S.n)) ds) 1
+      ∷ ProofFails unless all (λ i. eqb (c_in b i) (filed-exponent (m.dealing (v_in b) (Y_in b) a1 a2) j)) (members S.n)
       ∷ []
 
   filed-figures : (d i y Y : ℕ) (r : Record) → share_figure_checks S (opened_form d) i y Y r ≡ filed_share_figures S d i y Y r
@@ -83,9 +83,9 @@ module _ (S : Setting) (z : S.round ≡ 0) (o : S.whole_digest ≡ false) where
       let G = S.group in
       let a1 = announced G G.h.0 y (share_c r) (share_r r) in
       let a2 = announced G (Z_of r) Y (share_c r) (share_r r) in
-      6 unless is_element G (Z_of r)
-      ∷ 7 unless (is_exponent G (share_c r) && is_exponent G (share_r r))
-      ∷ 10 unless eqb (share_c r) (filed-exponent ((round-zero S z d).share share_tag i y Y (Z_of r) a1 a2) j)
+      NoElement unless is_element G (Z_of r)
+      ∷ NoExponent unless (is_exponent G (share_c r) && is_exponent G (share_r r))
+      ∷ ProofFails unless eqb (share_c r) (filed-exponent ((round-zero S z d).share share_tag i y Y (Z_of r) a1 a2) j)
       ∷ []
 
   filed-dealing : (d : ℕ) (ys b : List ℕ) → Distinct ys → ((i : ℕ) → 1 ≤ i → i ≤ S.n → (member_record b i).w7 ≡ 0) → judge_dealing_in S d ys b ≡ filed_dealing S d ys b
@@ -137,7 +137,7 @@ shaped-same n r h =
 
 -- a stuck dealing is the end, whatever there would be
 end_same : (c stuck : Bool) (u v : Element)
-    → outcome (14 unless c ∷ 13 unless pick stuck false true ∷ []) (pick stuck u v) ≡ outcome (14 unless c ∷ 13 unless not stuck ∷ []) v
+    → outcome (TooFew unless c ∷ StillStuck unless pick stuck false true ∷ []) (pick stuck u v) ≡ outcome (TooFew unless c ∷ StillStuck unless not stuck ∷ []) v
 end_same c true u v = refl
 end_same c false u v = refl
 
@@ -149,7 +149,7 @@ module _ (J : Judges) (S : Setting) (b : List ℕ) (h : (i : ℕ) → i < record
       let vs = verdicts_on J S b in
       let few : leb S.t (length (added_by J S b)) ≡ false =
       ap (λ (is : List ℕ). leb S.t (length is)) (none-of-kind J S b added_form (multiplied J S b Y_in) h) ∙ lt-leb S.t 0 l in
-      ap (λ (x : Bool). outcome (14 unless leb S.t (count_accepted vs) ∷ 13 unless pick (any_stuck vs) x true ∷ []) (draw_value J S b)) few
+      ap (λ (x : Bool). outcome (TooFew unless leb S.t (count_accepted vs) ∷ StillStuck unless pick (any_stuck vs) x true ∷ []) (draw_value J S b)) few
       ∙ end_same (leb S.t (count_accepted vs)) (any_stuck vs) _ _
 
 -- ---- a filed board
@@ -165,7 +165,7 @@ module _ (S : Setting) (z : S.round ≡ 0) (b : List ℕ) (w : OfThen b) where
   form = length_checks b ++ filed_record_checks S.n b 0 (records_in b)
 
   abbrev keys : List Check
-  keys = 12 unless all (has_key b) (members S.n) ∷ filed_key_checks S.group (keys_in S.n b)
+  keys = Incomplete unless all (has_key b) (members S.n) ∷ filed_key_checks S.group (keys_in S.n b)
 
   form-same : outcome (form_checks S b) tt ≡ outcome form (tt {0})
   unfolding form_checks
@@ -179,7 +179,7 @@ module _ (S : Setting) (z : S.round ≡ 0) (b : List ℕ) (w : OfThen b) where
   unfolding board_checks board_key_checks key_checks
   filed_before n =
       same-behind (form_checks S b) form form-same (board_key_checks S b) keys tt tt
-      (λ m. settled-outcome keys (22 unless none_twice (keys_in S.n b)) [] tt
+      (λ m. settled-outcome keys (SameKey unless none_twice (keys_in S.n b)) [] tt
       (λ k. true-distinct (keys_in S.n b) (n (both-met form keys (met-too (form_checks S b) form form-same m) k))))
 
   -- and is the first to refuse where the scope paper let two equal ones through
@@ -223,7 +223,7 @@ filed-over-round T R z b w n =
 pub filed-set : FiledSet
 filed-set s z f = λ j.
     let r = record_in s in
-    3 unless eqb (length s) 32 ∷ 4 unless agrees r (set_layout (set_group r) (set_n r) (set_t r) (z j) (f j)) ∷ []
+    BadLength unless eqb (length s) 32 ∷ BadForm unless agrees r (set_layout (set_group r) (set_n r) (set_t r) (z j) (f j)) ∷ []
 
 pub filed-twice-over-round : FiledTwiceOverRound
 filed-twice-over-round T R m z b w k t =

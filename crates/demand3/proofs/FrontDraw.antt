@@ -32,11 +32,11 @@ use Rattle.demand3.proofs.Front.{Front, front_of, record_same}
 use Rattle.demand3.proofs.Found.{reached-front}
 use Rattle.demand3.proofs.FrontVerdicts.{accepted-same, verdict-same}
 use Rattle.std.specs.Prelude.{Ok, Err}
-use Rattle.words.specs.declared.refusal.Refusal.TheVariants.{StillStuck}
+use Rattle.words.specs.declared.refusal.Refusal.TheVariants.{StillStuck, TooFew}
 
 -- ---- an end by its tests: enough dealings, a stuck one, enough added shares; by what the added shares recover, and by the product
 abbrev ending : Bool → Bool → Bool → Element → Element → Outcome Element
-ending enough stuck shares v w = outcome (14 unless enough ∷ 13 unless pick stuck shares true ∷ []) (pick stuck v w)
+ending enough stuck shares v w = outcome (TooFew unless enough ∷ StillStuck unless pick stuck shares true ∷ []) (pick stuck v w)
 
 ends : (enough stuck shares : Bool) (v u w : Element)
     → (ending enough stuck shares v w ≡ ending enough stuck false u w)

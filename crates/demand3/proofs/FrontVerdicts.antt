@@ -37,7 +37,7 @@ use Rattle.verdicts.proofs.ShareAnswers.{share-address}
 use Rattle.demand3.proofs.Front.{Front, bytes_same, record_same}
 use Rattle.demand3.proofs.Found.{line-count-same, lines_same, record-found, key-same, keys-same}
 use Rattle.std.specs.Prelude.{is_ok}
-use Rattle.words.specs.declared.refusal.Refusal.TheVariants.{Incomplete}
+use Rattle.words.specs.declared.refusal.Refusal.TheVariants.{Incomplete, StillStuck}
 
 -- what stands behind a test counts only where it holds
 behind_test : (x : Bool) {y z : Bool} → (x ≡ true → y ≡ z) → x && y ≡ x && z
@@ -112,7 +112,7 @@ module _ (J : Judges) (S : Setting) {b c : List ℕ} (F : Front b c) (met : Met 
         let Zs =
         map_same (λ i. Z_of (record_at c i)) (λ i. Z_of (record_at b i)) lowest
         (All-to lowest (λ i h. ap (λ (x : Record). Z_of x) (record_same F i h)) inside) in
-        (λ j. outcome (13 unless leb S.t (length is) ∷ []) (record { 0 = recovered S.group (ms j) (Zs j) }))
+        (λ j. outcome (StillStuck unless leb S.t (length is) ∷ []) (record { 0 = recovered S.group (ms j) (Zs j) }))
         ∙ ap (from_lowest S b) shares-same
 
   -- ---- the secret

@@ -26,8 +26,9 @@ use Rattle.text.specs.Text.{refused_line, dealer_lines, accepted_line, draw_line
 use Rattle.text.proofs.Reports.{text-passed}
 use Rattle.demand3.specs.Rounds.{FirstRefusal, OtherRoundRefused, KeyTwiceRefused, BoardJudge, draw_over, places_over, count_over, report_by, text_over, JudgedAs, AnsweredBySetting}
 use Rattle.std.specs.Prelude.{Ok, Err, is_ok}
+use Rattle.words.specs.declared.refusal.Refusal.{Refusal}
 
-refused-answer : (a : ElementAnswer) {k : ℕ} → a ≡ Err k → a ≡ Err k
+refused-answer : (a : Outcome Element) {k : Refusal} → a ≡ Err k → a ≡ Err k
 refused-answer (Ok v) e = absurd (false-true (sym (ap is_ok e)))
 refused-answer (Err i) {k} e = ap Err (ap number e)
   where
@@ -44,7 +45,7 @@ module _ (T : List ℕ) (R : Round) (b : List ℕ) where
   own = round_checks T R ++ board_checks S b
 
   -- ---- refused before the verdicts
-  module _ (J : Judges) (k : ℕ) (u : FirstUnmet k own) where
+  module _ (J : Judges) (k : Refusal) (u : FirstUnmet k own) where
     no-draw : draw_outcome J T R b ≡ Err k
     unfolding draw_outcome judged
     no-draw =

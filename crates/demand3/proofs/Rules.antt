@@ -30,7 +30,7 @@ use Rattle.share.specs.declared.ShareForm.{ShareForm}
 use Rattle.board.specs.Board.{one_record_checks, record_checks, length_checks, form_checks, board_key_checks, board_checks, lines_checks}
 use Rattle.demand3.specs.Rules.{under_rule, UnderOtherRule}
 use Rattle.std.specs.Prelude.{Ok, Err}
-use Rattle.words.specs.declared.refusal.Refusal.TheVariants.{DegreeFails}
+use Rattle.words.specs.declared.refusal.Refusal.TheVariants.{DegreeFails, NoElement, NoExponent, NoMember, ProofFails}
 
 -- of checks in three stages that are all met: with other checks in the third, these alone decide
 last-decides : {A : Type 0} (front ranges own other : List Check) → Met (front ++ (ranges ++ own)) → (a : A)
@@ -54,7 +54,7 @@ module _ (S : Setting) (whole : Bool) where
 
     lines_same : (d : ℕ) → lines_checks T d b ≡ lines_checks S d b
     unfolding lines_checks
-    lines_same d = ap (λ (cs : List Check). 8 unless is_member S.n d ∷ cs) form-same
+    lines_same d = ap (λ (cs : List Check). NoMember unless is_member S.n d ∷ cs) form-same
 
     board-same : board_checks T b ≡ board_checks S b
     unfolding board_checks board_key_checks
@@ -70,7 +70,7 @@ module _ (S : Setting) (whole : Bool) where
         last-decides form ranges (equations S) (equations T) (value-met (form ++ (ranges ++ equations S)) tt tt e).0 tt
 
     by-challenges : ProperSetting S → (f : List ℕ) → Carries S f (vs_in S.n b)
-        → judge_dealing_in T d ys b ≡ outcome (10 unless all (λ i. eqb (c_in b i) (recomputed T d ys (v_in b) (Y_in b) (r_in b) (c_in b))) (members S.n) ∷ []) tt
+        → judge_dealing_in T d ys b ≡ outcome (ProofFails unless all (λ i. eqb (c_in b i) (recomputed T d ys (v_in b) (Y_in b) (r_in b) (c_in b))) (members S.n) ∷ []) tt
     unfolding equation_checks vs_in
     by-challenges P f K =
         let vs = vs_in S.n b in
@@ -81,14 +81,14 @@ module _ (S : Setting) (whole : Bool) where
         by-equations ∙ pick_true (eqb (degree_product T vs ds) 1) _ (Err DegreeFails) (eq-eqb _ 1 nine)
 
   module _ (F : ShareForm) (i y Y : ℕ) (b : List ℕ) (Z : Element) (e : judge_share_in S F i y Y b ≡ Ok Z) where
-    by-challenge : judge_share_in T F i y Y b ≡ outcome (10 unless eqb (share_c (record_in b)) (share_recomputed T F i y Y (record_in b)) ∷ []) Z
+    by-challenge : judge_share_in T F i y Y b ≡ outcome (ProofFails unless eqb (share_c (record_in b)) (share_recomputed T F i y Y (record_in b)) ∷ []) Z
     unfolding judge_share_in share_admission_checks members_checks share_figure_checks
     by-challenge =
         let r = record_in b in
         let front = share_admission_checks S F i y Y b in
         let ranges : List Check =
-        6 unless is_element S.group (Z_of r) ∷ 7 unless (is_exponent S.group (share_c r) && is_exponent S.group (share_r r)) ∷ [] in
-        let equation : Setting → List Check = λ R. 10 unless eqb (share_c r) (share_recomputed R F i y Y r) ∷ [] in
+        NoElement unless is_element S.group (Z_of r) ∷ NoExponent unless (is_exponent S.group (share_c r) && is_exponent S.group (share_r r)) ∷ [] in
+        let equation : Setting → List Check = λ R. ProofFails unless eqb (share_c r) (share_recomputed R F i y Y r) ∷ [] in
         let v = value-met (front ++ (ranges ++ equation S)) (record { 0 = Z_of r }) Z e in
         last-decides front ranges (equation S) (equation T) v.0 (record { 0 = Z_of r }) ∙ ap (outcome (equation T)) v.1
 

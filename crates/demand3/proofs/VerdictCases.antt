@@ -28,12 +28,13 @@ use Rattle.demand3.proofs.Sources.{source_of, opened-exactly, recovers-exactly, 
 use Rattle.board.proofs.LineRun.{lines-exact}
 use Rattle.std.specs.Prelude.{Ok, Err, is_ok}
 use Rattle.words.specs.declared.refusal.Refusal.TheVariants.{Incomplete}
+use Rattle.words.specs.declared.refusal.Refusal.{Refusal}
 
 -- ---- the four cases of a verdict
 pub data Case (J : Judges) (S : Setting) (b : List ℕ) (d : ℕ) : Type 0 where
   no_lines : line_count b d ≡ 0 → is_accepted J S b d ≡ false → verdict_on J S b d ≡ None → Case J S b d
   some-lines : (line_count b d ≡ 0 → ⊥) → (line_count b d ≡ S.n → ⊥) → is_accepted J S b d ≡ false → verdict_on J S b d ≡ Refused Incomplete → Case J S b d
-  refused-lines : line_count b d ≡ S.n → (k : ℕ) → dealing_answer J S b d ≡ Err k → is_accepted J S b d ≡ false → verdict_on J S b d ≡ Refused k
+  refused-lines : line_count b d ≡ S.n → (k : Refusal) → dealing_answer J S b d ≡ Err k → is_accepted J S b d ≡ false → verdict_on J S b d ≡ Refused k
       → Case J S b d
   accepted-lines : line_count b d ≡ S.n → dealing_answer J S b d ≡ Ok tt → is_accepted J S b d ≡ true → verdict_on J S b d ≡ Accepted (secret_by J S b d)
       → Case J S b d

@@ -27,6 +27,7 @@ use Rattle.group.specs.Claims.{Chosen, IsOwnGroup, IsTable, TableExactly, TableP
 use Rattle.group.specs.declared.Group.{Group}
 use Rattle.group.proofs.Powers.{halves-power}
 use Rattle.group.proofs.Elements.{element-true, true-element}
+use Rattle.words.specs.declared.refusal.Refusal.TheVariants.{UnknownGroup}
 
 -- ---- the built-in groups
 -- b is below p, not 1, and its power q is 1: right where q is below 2 to the power k
@@ -255,7 +256,7 @@ module _ (T₁ T₂ : List ℕ) (m₁ : Met (table_checks T₁)) (m₂ : Met (ta
 pub same-groups : SameGroups
 unfolding in_group in_group_else group_checks
 same-groups T₁ T₂ m₁ m₂ e =
-    let number : ℕ → List Group → List Check = λ k Gs. 1 unless is_group Gs k ∷ [] in
+    let number : ℕ → List Group → List Check = λ k Gs. UnknownGroup unless is_group Gs k ∷ [] in
     record {
       answer = λ k checks answer. groups-outcome T₁ T₂ m₁ m₂ e (number k) (λ Gs. checks (group_of Gs k)) (λ Gs. answer (group_of Gs k));
       lent = λ k checks new old. groups-choice T₁ T₂ m₁ m₂ e (number k) (λ Gs. checks (group_of Gs k)) (λ Gs. new (group_of Gs k)) old;

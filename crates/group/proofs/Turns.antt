@@ -6,20 +6,21 @@ use mathlib.Core.List.{List, [], ◌∷◌}
 use Prim.Native.Nat.{ℕ, suc, ◌+◌, ◌-◌, ◌≤◌, ◌<◌}
 use native.Mathlib.Omega.{arith}
 use Rattle.words.specs.Lists.{up_from}
-use Rattle.words.specs.Checks.{◌unless◌, refusal, Met}
+use Rattle.words.specs.Checks.{◌unless◌, Outcome, outcome}
 use Rattle.words.specs.Bytes.{records_in, record_at}
 use Rattle.words.specs.declared.Record.{Record}
 use borrow.Author.Tests.{le-leb, lt-leb}
 use lib.ListN.{length, get_or}
 use Rattle.words.proofs.Lists.{map-length, map_at, up-length, up_at}
 use Rattle.words.proofs.Tests.{true-and}
-use Rattle.words.proofs.Checks.{none-exactly}
+use Rattle.std.specs.Prelude.{Ok, Err}
 use Rattle.group.specs.Table.{group, built_in, is_group_record, group_at, groups_from, groups_of, has_primes, has_generators, groups_checks, are_groups, table_checks, is_group, group_of}
 use Rattle.group.specs.declared.Group.{Group}
+use Rattle.words.specs.declared.refusal.Refusal.TheVariants.{NotPrime, NoGenerator}
 
--- what the groups from i on are refused by
-abbrev pub refusal_from : List ℕ → ℕ → ℕ → ℕ
-refusal_from T n i = refusal (groups_checks (groups_from T i (n - i)))
+-- what the checks of the groups from i on come to
+abbrev pub outcome_from : List ℕ → ℕ → ℕ → Outcome (Unit {0})
+outcome_from T n i = outcome (groups_checks (groups_from T i (n - i))) tt
 
 module _ (T : List ℕ) (n i : ℕ) where
   next : suc i ≡ i + 1
@@ -42,20 +43,20 @@ module _ (T : List ℕ) (n i : ℕ) where
       form-stop t = form-turn ∙ simp (← e, t)
 
     -- ---- groups
-    turn : refusal_from T n i
-        ≡ refusal (20 unless has_primes (group_at T i) ∷ 21 unless has_generators (group_at T i) ∷ groups_checks (groups_from T (i + 1) (n - (i + 1))))
+    turn : outcome_from T n i
+        ≡ outcome (NotPrime unless has_primes (group_at T i) ∷ NoGenerator unless has_generators (group_at T i) ∷ groups_checks (groups_from T (i + 1) (n - (i + 1)))) tt
     turn =
-        ap (λ (m : ℕ). refusal (groups_checks (groups_from T i m))) left
-        ∙ ap (λ (j : ℕ). refusal (20 unless has_primes (group_at T i) ∷ 21 unless has_generators (group_at T i) ∷ groups_checks (groups_from T j (n - (i + 1))))) next
+        ap (λ (m : ℕ). outcome (groups_checks (groups_from T i m)) (tt {0})) left
+        ∙ ap (λ (j : ℕ). outcome (NotPrime unless has_primes (group_at T i) ∷ NoGenerator unless has_generators (group_at T i) ∷ groups_checks (groups_from T j (n - (i + 1)))) (tt {0})) next
 
     module _ {G : Group} (e : G ≡ group_at T i) where
-      pub primes-refused : has_primes G ≡ false → refusal_from T n i ≡ 20
+      pub primes-refused : has_primes G ≡ false → outcome_from T n i ≡ Err NotPrime
       primes-refused t = turn ∙ simp (← e, t)
 
-      pub generators-refused : has_primes G ≡ true → has_generators G ≡ false → refusal_from T n i ≡ 21
+      pub generators-refused : has_primes G ≡ true → has_generators G ≡ false → outcome_from T n i ≡ Err NoGenerator
       generators-refused t u = turn ∙ simp (← e, t, u)
 
-      pub group-passed : has_primes G ≡ true → has_generators G ≡ true → refusal_from T n i ≡ refusal_from T n (i + 1)
+      pub group-passed : has_primes G ≡ true → has_generators G ≡ true → outcome_from T n i ≡ outcome_from T n (i + 1)
       group-passed t u = turn ∙ simp (← e, t, u)
 
   module _ (h : n ≤ i) where
@@ -65,8 +66,8 @@ module _ (T : List ℕ) (n i : ℕ) where
     pub forms-passed : are_groups T i (n - i) ≡ true
     forms-passed = ap (are_groups T i) none
 
-    pub groups-passed : refusal_from T n i ≡ 0
-    groups-passed = ap (λ (m : ℕ). refusal (groups_checks (groups_from T i m))) none
+    pub groups-passed : outcome_from T n i ≡ Ok tt
+    groups-passed = ap (λ (m : ℕ). outcome (groups_checks (groups_from T i m)) (tt {0})) none
 
 -- ---- the group of a number
 pub no_bytes : (T : List ℕ) → length T ≡ 0 → groups_of T ≡ built_in
@@ -99,16 +100,3 @@ module _ (T : List ℕ) (k : ℕ) (b : length T ≡ 0 → ⊥) (h : 1 ≤ k) whe
         ∙ map_at (group_at T) (up_from 0 (records_in T)) (k - 1) 0 (group 0 0 0 0) (omega (arith, up-length 0 (records_in T)))
         ∙ ap (group_at T) (up_at 0 (records_in T) (k - 1) (omega arith) ∙ omega arith),
   )
-
--- ---- no check has the number 0
-groups-numbered : (Gs : List Group) → Numbered (groups_checks Gs)
-groups-numbered [] = tt
-groups-numbered (G ∷ Gs) = (omega arith, (omega arith, groups-numbered Gs))
-
-pub table-numbered : (T : List ℕ) → Numbered (table_checks T)
-unfolding table_checks
-table-numbered T = (omega arith, (omega arith, groups-numbered (groups_from T 0 (records_in T))))
-
--- so a table is accepted where its function answers 0
-pub table-met : (T : List ℕ) {k : ℕ} → k ≡ refusal (table_checks T) → k ≡ 0 → Met (table_checks T)
-table-met T e z = (none-exactly (table_checks T) (table-numbered T)).0 (sym e ∙ z)

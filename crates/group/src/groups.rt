@@ -118,8 +118,7 @@ fn has_generators(gr: Group) -> bool
 fn check_groups(table: &[u8]) -> Result<(), Refusal>
     ensures { result ≡ outcome (groups_checks (groups_from table.now 0 (records_in table.now))) tt }
 {
-    let mut i = 0;
-    while i < table.len() / 32 {
+    for i in 0..table.len() / 32 {
         let gr = group_at(table, i);
         if !has_primes(gr) {
             return Err(Refusal::NotPrime);
@@ -127,7 +126,6 @@ fn check_groups(table: &[u8]) -> Result<(), Refusal>
         if !has_generators(gr) {
             return Err(Refusal::NoGenerator);
         }
-        i += 1;
     }
     Ok(())
 }

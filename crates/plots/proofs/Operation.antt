@@ -17,6 +17,7 @@ use Rattle.plots.specs.Picked.{is_radius, picked, plot_checks, pick_checks, pick
 use Rattle.plots.specs.Claims.{PickLent, SamePlots}
 use Rattle.plots.proofs.Picked.{picked-exactly}
 use Rattle.std.specs.Prelude.{Ok, Err}
+use Rattle.words.specs.declared.refusal.Refusal.{Refusal}
 
 -- ---- what the checks settle
 pub record Pickable (radius N k room : ℕ) : Type 0 where
@@ -57,7 +58,7 @@ module _ (T : List ℕ) (number : ℕ) (v : Element) (radius N k : ℕ) (out : L
       let w = (met-both (group_checks T number) own m).1 in
       ((pickable radius N k (length out) w.1).k-most, if-met (picked v.0 radius N k) out (group_checks T number ++ own) m)
 
-  refused-lent : (i : ℕ) → pick_outcome T number v radius N k (length out) ≡ Err i → lent_plots T number v radius N k out ≡ out
+  refused-lent : (i : Refusal) → pick_outcome T number v radius N k (length out) ≡ Err i → lent_plots T number v radius N k out ≡ out
   unfolding pick_outcome lent_plots in_group in_group_else
   refused-lent i e =
       let cs = group_checks T number ++ own in

@@ -12,6 +12,7 @@ use Rattle.sha256.specs.Answer.{digest_outcome}
 use Rattle.sha256.proofs.Values.{hash-words, answer-value}
 use Rattle.plots.specs.Rank.{rank_message, rank}
 use Rattle.std.specs.Prelude.{Ok}
+use Rattle.words.specs.Checks.{Outcome}
 
 -- the ten bytes as they are written
 pub message-put : (v radius plot : ℕ) {m l : List ℕ} → l ≡ put_at 2 (word_bytes v) (set (set (replicate 10 0) 0 0x4C) 1 radius)
@@ -23,7 +24,7 @@ first_word : (r : Record) → r.w0 < 2 ^ 32 → big_endian 0 (take 4 (record_byt
 unfolding record_bytes words_bytes word_bytes
 first_word r h = word_number 0 r.w0 h ∙ omega arith
 
-pub rank-value : (v radius plot : ℕ) {m : List ℕ} {a : DigestAnswer} → m ≡ rank_message v radius plot → a ≡ digest_outcome m
+pub rank-value : (v radius plot : ℕ) {m : List ℕ} {a : Outcome Record} → m ≡ rank_message v radius plot → a ≡ digest_outcome m
     → {r : Record} → a ≡ Ok r → r.w0 ≡ rank v radius plot
 unfolding rank hash
 rank-value v radius plot {m} e o {r} f =

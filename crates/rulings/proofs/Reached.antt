@@ -17,6 +17,7 @@ use Rattle.verdicts.specs.declared.Judgement.{Judgement}
 use Rattle.rulings.specs.Ruling.{refused_board, refused_ruling, reached_by, JudgedBy, RulingIn, JudgementOf}
 use Rattle.rulings.specs.declared.Ruling.{Ruling}
 use Rattle.std.specs.Prelude.{Ok, Err}
+use Rattle.words.specs.declared.refusal.Refusal.{Refusal}
 
 -- the board's checks come behind those that give the setting
 pub reached-all : (b : List ℕ) (cs : List Check) (S : Setting) → reached_by b (outcome cs S) ≡ outcome (cs ++ board_checks S b) S
@@ -48,7 +49,7 @@ module _ (J : Judges) (T : List ℕ) (R : Round) (b : List ℕ) where
         draw = I.draw ∙ rest-outcome checks (draw_checks J S b) m (draw_value J S b) ∙ drawn;
       }
 
-  pub unmet-judged : {A : Judgement} (k : ℕ) → FirstUnmet k checks → A ≡ refused_board k → JudgementOf J T R b A
+  pub unmet-judged : {A : Judgement} (k : Refusal) → FirstUnmet k checks → A ≡ refused_board k → JudgementOf J T R b A
   unfolding refused_board judged_else
   unmet-judged k u e =
       record {
@@ -67,7 +68,7 @@ module _ (J : Judges) (T : List ℕ) (R : Round) (b : List ℕ) where
       (decided checks)
 
 -- ---- a ruling, by the answer a that gives its setting and by what is reached
-module _ (J : Judges) (b : List ℕ) (a : SettingAnswer) where
+module _ (J : Judges) (b : List ℕ) (a : Outcome Setting) where
   abbrev Ruled : Ruling → Type 0
   Ruled A = RulingIn J (a) b A
 
@@ -76,16 +77,16 @@ module _ (J : Judges) (b : List ℕ) (a : SettingAnswer) where
   ruled {A = A} s j e =
       record { setting = s ∙ sym e; judgement = subst (λ (o : Outcome Setting). JudgedBy J b o A.judgement) (sym e) j }
 
-  refused-by : {k : ℕ} → reached_by b (a) ≡ Err k → Ruled (refused_ruling k)
+  refused-by : {k : Refusal} → reached_by b (a) ≡ Err k → Ruled (refused_ruling k)
   unfolding refused_ruling
   refused-by e = ruled refl refl e
 
-  pub setting-refused : {k : ℕ} {A : Ruling} → a ≡ Err k → A ≡ refused_ruling k → Ruled A
-  setting-refused f e = subst Ruled (sym e) (refused-by (ap (λ (x : SettingAnswer). reached_by b (x)) f))
+  pub setting-refused : {k : Refusal} {A : Ruling} → a ≡ Err k → A ≡ refused_ruling k → Ruled A
+  setting-refused f e = subst Ruled (sym e) (refused-by (ap (λ (x : Outcome Setting). reached_by b (x)) f))
 
   module _ {S : Setting} (f : a ≡ Ok S) where
     in-setting : reached_by b (a) ≡ outcome (board_checks S b) S
-    in-setting = ap (λ (x : SettingAnswer). reached_by b (x)) f
+    in-setting = ap (λ (x : Outcome Setting). reached_by b (x)) f
 
     pub board-refused : {k : ℕ} {A : Ruling} → k ≡ refusal (board_checks S b) → (k ≡ 0 → ⊥) → A ≡ refused_ruling k → Ruled A
     board-refused h n e = subst Ruled (sym e) (refused-by (in-setting ∙ sym (last-refused (board_checks S b) h n S)))
@@ -94,6 +95,6 @@ module _ (J : Judges) (b : List ℕ) (a : SettingAnswer) where
     board-reached m I = ruled refl I (in-setting ∙ (value-exactly Setting (board_checks S b) S).1 m)
 
 -- the judgement of a ruling by the setting of a table and a round is what they give
-pub ruled-round : (J : Judges) (T : List ℕ) (R : Round) (b : List ℕ) (a : SettingAnswer) {A : Ruling} → a ≡ setting_outcome T R
+pub ruled-round : (J : Judges) (T : List ℕ) (R : Round) (b : List ℕ) (a : Outcome Setting) {A : Ruling} → a ≡ setting_outcome T R
     → RulingIn J (a) b A → JudgementOf J T R b A.judgement
 ruled-round J T R b a {A = A} e I = judged-round J T R b (subst (λ (o : Outcome Setting). JudgedBy J b (reached_by b o) A.judgement) e I.judgement)

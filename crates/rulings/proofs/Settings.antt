@@ -2,7 +2,7 @@
 use mathlib.Core.Path.{◌≡◌, refl, sym, ap, ◌∙◌, subst}
 use mathlib.Core.List.{List}
 use Prim.Native.Nat.{ℕ, ◌<◌}
-use Rattle.words.specs.Checks.{Check, refusal, Met}
+use Rattle.words.specs.Checks.{Check, refusal, Met, Outcome}
 use Rattle.words.proofs.Lists.{All-append}
 use Rattle.words.proofs.Checks.{value-met, none-exactly, numbered}
 use Rattle.words.proofs.Stages.{met-both, both-met, rest-outcome, stage-refused}
@@ -13,12 +13,13 @@ use Rattle.sharing.specs.declared.Setting.{Setting}
 use Rattle.sharing.proofs.Rounds.{figures-setting, round-proper}
 use Rattle.rulings.specs.Files.{set_checks, round_in, file_checks, setting_checks, files_outcome}
 use Rattle.std.specs.Prelude.{Ok, Err}
+use Rattle.words.specs.declared.refusal.Refusal.{Refusal}
 
 module _ (T s : List ℕ) where
   abbrev figures : List Check
   figures = round_figures (groups_of T) (round_in s)
 
-  pub files-refused : {k : ℕ} → k ≡ refusal (file_checks T s) → (k ≡ 0 → ⊥) → Err k ≡ files_outcome T s
+  pub files-refused : {k : Refusal} → k ≡ refusal (file_checks T s) → (k ≡ 0 → ⊥) → Err k ≡ files_outcome T s
   unfolding files_outcome
   files-refused e n = stage-refused (file_checks T s) e figures n (setting_in T (round_in s))
 
@@ -44,8 +45,8 @@ module _ (T s : List ℕ) where
       let f = met-both (file_checks T s) figures m in
       round-proper T (round_in s) (both-met (table_checks T) figures (met-both (table_checks T) (set_checks s) f.0).0 f.1)
 
-  pub files-proper : {r : SettingAnswer} → r ≡ files_outcome T s → {S : Setting} → r ≡ Ok S → ProperSetting S
+  pub files-proper : {r : Outcome Setting} → r ≡ files_outcome T s → {S : Setting} → r ≡ Ok S → ProperSetting S
   unfolding files_outcome
   files-proper e {S} f =
-      let v = value-met (setting_checks T s) (setting_in T (round_in s)) S (sym e ∙ ap f) in
+      let v = value-met (setting_checks T s) (setting_in T (round_in s)) S (sym e ∙ f) in
       subst ProperSetting v.1 (checked-proper v.0)

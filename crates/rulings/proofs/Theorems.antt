@@ -18,13 +18,14 @@ use Rattle.rulings.specs.declared.Ruling.{Ruling}
 use Rattle.rulings.proofs.Reached.{reached-all, judged-round}
 use Rattle.rulings.proofs.Settings.{files-round, checked-proper}
 use Rattle.std.specs.Prelude.{Ok, Err}
+use Rattle.words.specs.declared.refusal.Refusal.{Refusal}
 
 -- ---- an answer by its outcome
-answer-value : (a : SettingAnswer) {S : Setting} → a ≡ Ok S → a ≡ Ok S
+answer-value : (a : Outcome Setting) {S : Setting} → a ≡ Ok S → a ≡ Ok S
 answer-value (Ok R) {S} e = ap Ok (value-met [] R S e).1
 answer-value (Err k) e = absurd (not-value refl e)
 
-answer-refused : (a : SettingAnswer) {k : ℕ} → a ≡ Err k → a ≡ Err k
+answer-refused : (a : Outcome Setting) {k : Refusal} → a ≡ Err k → a ≡ Err k
 answer-refused (Ok R) e = absurd (not-value refl (sym e))
 answer-refused (Err i) e = ap Err (ap number e)
   where
@@ -53,14 +54,14 @@ ruling-reached J T s b A I =
     let S = setting_in T (round_in s) in
     let e = ruling-setting J T s b A I in (
       λ m. answer-value A.setting (e ∙ (value-exactly Setting cs S).1 m),
-      λ f. (value-exactly Setting cs S).0 (sym e ∙ ap f),
+      λ f. (value-exactly Setting cs S).0 (sym e ∙ f),
     )
 
 pub ruling-settled : RulingSettled
 ruling-settled J T s b A I S f =
     let cs = ruling_checks T s b in
     let R = setting_in T (round_in s) in
-    let v = value-met cs R S (sym (ruling-setting J T s b A I) ∙ ap f) in
+    let v = value-met cs R S (sym (ruling-setting J T s b A I) ∙ f) in
     let m = met-both (setting_checks T s) (board_checks R b) v.0 in
     subst (λ (X : Setting). Settled J T s b X A) v.1
     (record {
@@ -76,13 +77,13 @@ ruling-refused J T s b A I k =
     let S = setting_in T (round_in s) in
     let e = ruling-setting J T s b A I in (
       λ u. answer-refused A.setting (e ∙ (refused-exactly Setting cs S k).1 u),
-      λ f. (refused-exactly Setting cs S k).0 (sym e ∙ ap f),
+      λ f. (refused-exactly Setting cs S k).0 (sym e ∙ f),
     )
 
 pub ruling-empty : RulingEmpty
 unfolding refused_ruling
 ruling-empty J T s b A I k f =
-    let j = ruling-judgement J T s b A I (sym (ruling-setting J T s b A I) ∙ ap f) in
+    let j = ruling-judgement J T s b A I (sym (ruling-setting J T s b A I) ∙ f) in
     λ i. record { setting = f i; judgement = j i }
 
 pub ruling-judged : RulingJudged

@@ -13,6 +13,8 @@ use Rattle.sha256.specs.Answer.{digest_checks, digest_outcome}
 use Rattle.sha256.specs.Claims.{HashWords, HashBytes, DigestValue, DigestRefused}
 use Rattle.sha256.proofs.Padded.{pad-blocks}
 use Rattle.std.specs.Prelude.{Ok, Err}
+use Rattle.words.specs.declared.refusal.Refusal.{Refusal}
+use Rattle.words.specs.Checks.{Outcome}
 
 sums-low : (v s : State) → Below (2 ^ 32) (record_words (state_record (add_states v s)))
 unfolding add_states
@@ -48,9 +50,9 @@ digest-refused m k = (
 )
 
 -- ---- by the answer a of the function
-module _ (m : List ℕ) {a : DigestAnswer} (o : a ≡ digest_outcome m) where
+module _ (m : List ℕ) {a : Outcome Record} (o : a ≡ digest_outcome m) where
   pub answer-value : {r : Record} → a ≡ Ok r → hash_value m ≡ r
-  answer-value {r} f = ((digest-value m r).0 (sym o ∙ ap f)).1
+  answer-value {r} f = ((digest-value m r).0 (sym o ∙ f)).1
 
-  pub never-refused : {k : ℕ} → length m ≤ 65536 → a ≡ Err k → ⊥
-  never-refused {k} h f = omega (arith, ((digest-refused m k).0 (sym o ∙ ap f)).0)
+  pub never-refused : {k : Refusal} → length m ≤ 65536 → a ≡ Err k → ⊥
+  never-refused {k} h f = omega (arith, ((digest-refused m k).0 (sym o ∙ f)).0)

@@ -10,7 +10,7 @@ use borrow.Author.Tests.{ltb-true, leb-true, le-leb}
 use lib.ListN.{length}
 use lib.Dec.{leb, ltb}
 use Rattle.words.specs.Lists.{All, Below, all, none_twice}
-use Rattle.words.specs.Checks.{Check, outcome, Met, if_met}
+use Rattle.words.specs.Checks.{Check, outcome, Met, if_met, Outcome}
 use Rattle.words.proofs.Lists.{All-to, up-length, up-within, up-distinct}
 use Rattle.words.proofs.Tests.{and-true, true-and, all_true, true-all, true-distinct}
 use Rattle.words.proofs.Checks.{value-met}
@@ -26,6 +26,7 @@ use Rattle.sharing.specs.Carried.{Carries, Quorum}
 use Rattle.sharing.specs.declared.Round.{Round}
 use Rattle.sharing.specs.declared.Setting.{Setting}
 use Rattle.std.specs.Prelude.{Ok, Err}
+use Rattle.words.specs.declared.refusal.Refusal.{Refusal}
 
 pub round-proper : (T : List ℕ) (R : Round) → Met (round_checks T R) → ProperSetting (setting_in T R)
 unfolding round_checks round_figures in_range
@@ -103,32 +104,32 @@ module _ {A : Type 0} (T : List ℕ) (R : Round) (checks : Setting → List Chec
   )
 
   -- ---- the same by the answer r of the function that gives the setting
-  module _ {r : SettingAnswer} (e : r ≡ setting_outcome T R) where
-    pub judged-refused : {k : ℕ} → r ≡ Err k → Err k ≡ judged T R checks answer
+  module _ {r : Outcome Setting} (e : r ≡ setting_outcome T R) where
+    pub judged-refused : {k : Refusal} → r ≡ Err k → Err k ≡ judged T R checks answer
     unfolding judged setting_outcome
-    judged-refused f = given-refused (round_checks T R) (setting_in T R) checks answer (sym e ∙ ap f)
+    judged-refused f = given-refused (round_checks T R) (setting_in T R) checks answer (sym e ∙ f)
 
     pub judged-value : {S : Setting} → r ≡ Ok S → outcome (checks S) (answer S) ≡ judged T R checks answer
     unfolding judged setting_outcome
-    judged-value f = given-value (round_checks T R) (setting_in T R) checks answer (sym e ∙ ap f)
+    judged-value f = given-value (round_checks T R) (setting_in T R) checks answer (sym e ∙ f)
 
-    pub judged-kept : {k : ℕ} → r ≡ Err k → (old : A) → old ≡ judged_else T R checks answer old
+    pub judged-kept : {k : Refusal} → r ≡ Err k → (old : A) → old ≡ judged_else T R checks answer old
     unfolding judged_else setting_outcome
-    judged-kept f old = given-kept (round_checks T R) (setting_in T R) checks answer (sym e ∙ ap f) old
+    judged-kept f old = given-kept (round_checks T R) (setting_in T R) checks answer (sym e ∙ f) old
 
     pub judged-lent : {S : Setting} → r ≡ Ok S → (old : A) → if_met (checks S) (answer S) old ≡ judged_else T R checks answer old
     unfolding judged_else setting_outcome
-    judged-lent f old = given-choice (round_checks T R) (setting_in T R) checks answer (sym e ∙ ap f) old
+    judged-lent f old = given-choice (round_checks T R) (setting_in T R) checks answer (sym e ∙ f) old
 
 -- where the table is accepted, the function that looks the setting up in it gives the same
 pub figures-setting : (T : List ℕ) (R : Round) → Met (table_checks T) → figures_outcome T R ≡ setting_outcome T R
 unfolding figures_outcome setting_outcome round_checks
 figures-setting T R m = rest-outcome (table_checks T) (round_figures (groups_of T) R) m (setting_in T R)
 
-pub setting-proper : (T : List ℕ) (R : Round) {r : SettingAnswer} → r ≡ setting_outcome T R → {S : Setting} → r ≡ Ok S → ProperSetting S
+pub setting-proper : (T : List ℕ) (R : Round) {r : Outcome Setting} → r ≡ setting_outcome T R → {S : Setting} → r ≡ Ok S → ProperSetting S
 unfolding setting_outcome
 setting-proper T R e {S} f =
-    let s = value-met (round_checks T R) (setting_in T R) S (sym e ∙ ap f) in
+    let s = value-met (round_checks T R) (setting_in T R) S (sym e ∙ f) in
     subst ProperSetting s.1 (round-proper T R s.0)
 
 -- ---- members and quorums

@@ -10,7 +10,7 @@ mod settings;
 mod shares;
 mod weights;
 
-use group::{Exponent, Group, all_elements, all_exponents, is_exponent};
+use group::{Element, Exponent, Group, all_elements, all_exponents, is_exponent};
 pub use members::is_member;
 use members::is_quorum;
 pub use settings::{setting_in, setting_of};

@@ -22,6 +22,7 @@ use Rattle.rulings.proofs.Reached.{unmet-judged}
 use Rattle.tadlovimpe.specs.Figures.{answer_of, part_of, place_of}
 use Rattle.tadlovimpe.specs.Claims.{AnswerRefused, PartRefused, PartExactly, BoardRefused, BoardUnmet}
 use Rattle.std.specs.Prelude.{Ok, Err}
+use Rattle.words.specs.declared.refusal.Refusal.{Refusal}
 
 -- ---- by cases on the outcome
 pub answer-refused : AnswerRefused
@@ -59,7 +60,7 @@ all-numbered T R d b =
 zero-met : (cs : List Check) (start bytes : ℕ) → Numbered cs → (part_of (outcome cs tt) start bytes).refusal ≡ 0 → outcome cs (tt {0}) ≡ Ok tt
 zero-met cs start bytes n e = ⊎_elim (value-exactly (Unit {0}) cs tt).1 (λ u. absurd (unmet u.0 u.1)) (decided cs)
   where
-    unmet : (k : ℕ) → FirstUnmet k cs → ⊥
+    unmet : (k : Refusal) → FirstUnmet k cs → ⊥
     unmet k u =
         let o = (refused-exactly (Unit {0}) cs tt k).1 u in
         let z : k ≡ 0 = sym (ap (λ (x : Outcome (Unit {0})). (part_of x start bytes).refusal) o) ∙ e in

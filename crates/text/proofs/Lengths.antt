@@ -26,6 +26,7 @@ use Rattle.text.specs.Buffer.{Room}
 use Rattle.text.specs.Claims.{TextFits}
 use Rattle.text.proofs.Decimals.{figure-most, short-figure}
 use Rattle.std.specs.Prelude.{Ok, Err}
+use Rattle.words.specs.declared.refusal.Refusal.{Refusal}
 
 -- ---- lines
 -- a word and a figure, and a line of them
@@ -67,7 +68,7 @@ dealers-most d (v ∷ vs) h =
       dealers-most (suc d) vs (omega arith),
     )
 
-refused-most : (k : ℕ) → length (refused_line k) ≤ 19
+refused-most : (k : Refusal) → length (refused_line k) ≤ 19
 unfolding refused_line
 refused-most k = line-most refused_word k
 

@@ -31,6 +31,7 @@ use Rattle.text.specs.Text.{dealer_lines, refused_line, draw_line, round_line, a
 use Rattle.text.specs.Claims.{TextRefused, TableFirst, TextByGroups}
 use Rattle.text.specs.Report.{verdict_at, verdicts_at, report_from}
 use Rattle.std.specs.Prelude.{Ok, Err}
+use Rattle.words.specs.declared.refusal.Refusal.{Refusal}
 
 -- the first n of the verdicts in the array
 places-verdicts : (w : ℕ → Verdict) (n : ℕ) → n ≤ 31 → verdicts_at n (verdict_places w n) ≡ map w (members n)
@@ -54,7 +55,7 @@ report-same J S b A h m a =
 
 -- ---- the text by what is refused
 module _ (cs : List Check) (t : List ℕ) where
-  unmet-text : (k : ℕ) → FirstUnmet k cs → text_of (outcome cs t) ≡ refused_line k
+  unmet-text : (k : Refusal) → FirstUnmet k cs → text_of (outcome cs t) ≡ refused_line k
   unmet-text k u = ap text_of ((refused-exactly (List ℕ) cs t k).1 u)
 
   pub text-passed : Met cs → text_of (outcome cs t) ≡ t
@@ -82,7 +83,7 @@ text-refused J T s b k u = text-ruled J T s b ∙ unmet-text (ruling_checks T s 
 
 -- ---- the text by the ruling
 module _ (J : Judges) (T s b : List ℕ) (A : Ruling) (I : RulingOf J T s b A) where
-  pub refused-text : {k : ℕ} → A.setting ≡ Err k → draw_text J T s b ≡ refused_line k
+  pub refused-text : {k : Refusal} → A.setting ≡ Err k → draw_text J T s b ≡ refused_line k
   refused-text {k} f = text-ruled J T s b ∙ unmet-text (ruling_checks T s b) _ k ((ruling-refused J T s b A I k).1 f)
 
   pub reported-text : {S : Setting} → A.setting ≡ Ok S → draw_text J T s b ≡ report_from S A.judgement

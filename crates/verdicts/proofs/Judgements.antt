@@ -5,7 +5,7 @@ use mathlib.Core.List.{List}
 use Prim.Native.Nat.{ℕ}
 use lib.ListN.{length, take}
 use Rattle.words.specs.Choice.{pick}
-use Rattle.words.specs.Checks.{outcome}
+use Rattle.words.specs.Checks.{outcome, Outcome}
 use Rattle.group.specs.declared.Element.{Element}
 use Rattle.sharing.specs.declared.Setting.{Setting}
 use Rattle.verdicts.specs.Shares.{Judges, recovered_from}
@@ -20,7 +20,7 @@ added_value J S b = record { 0 = recovered_from S.group b (take S.t (added_by J 
 
 pub above-judged : (J : Judges) (S : Setting) (b : List ℕ) (d : ℕ) (verdicts : List DealerVerdict) (accepted : ℕ) (stuck : Bool) (product : Element)
     → DealersAbove (verdict_on J S b) S.group.p S.n d verdicts accepted stuck product.0 → d ≡ 0
-    → (a : ElementAnswer)
+    → (a : Outcome Element)
     → a ≡ outcome (end_checks S.t accepted stuck (length (added_by J S b))) (pick stuck (added_value J S b) product)
     → JudgementIn J S b (record { verdicts = verdicts; accepted = accepted; draw = a })
 unfolding reached_draw

@@ -43,6 +43,7 @@ use Rattle.verdicts.specs.declared.GatheredShares.{GatheredShares}
 use Rattle.verdicts.specs.declared.Secret.TheVariants.{Opened, Recovered, Stuck}
 use Rattle.std.specs.Prelude.{Ok, Err, is_ok}
 use Rattle.words.specs.declared.refusal.Refusal.TheVariants.{NoExponent, WrongOpening, StillStuck}
+use Rattle.words.specs.declared.refusal.Refusal.{Refusal}
 
 few-taken : (t : ℕ) (xs : List ℕ) → length (take t xs) < t → length xs < t
 few-taken t xs h = omega (arith, length-take t xs)
@@ -204,12 +205,12 @@ module _ (S : Setting) (b : List ℕ) (d : ℕ) where
       ∙ sym (pick_true (is_opened S b d) _ (from_shares J S b d) e)
 
   -- by what recovery answers for them
-  module _ {F : ShareForm} (f : F ≡ opened_form d) {Ys : List ℕ} (Y : Ys ≡ encrypted_of S b d) (a : ElementAnswer) (e : a ≡ from_lowest S b (shares_in judges S b F Ys)) where
+  module _ {F : ShareForm} (f : F ≡ opened_form d) {Ys : List ℕ} (Y : Ys ≡ encrypted_of S b d) (a : Outcome Element) (e : a ≡ from_lowest S b (shares_in judges S b F Ys)) where
     from_told : (o : Outcome Element) → a ≡ o → secret_from o ≡ from_shares judges S b d
     unfolding from_shares
     from_told o r = ap secret_from (sym r ∙ e ∙ (λ j. from_lowest S b (shares_in judges S b (f j) (Y j))))
 
-    pub from-refused : {k : ℕ} → a ≡ Err k → Stuck ≡ from_shares judges S b d
+    pub from-refused : {k : Refusal} → a ≡ Err k → Stuck ≡ from_shares judges S b d
     from-refused {k} r = from_told (Err k) (ap r)
 
     pub from-value : {v : Element} → a ≡ Ok v → Recovered v ≡ from_shares judges S b d

@@ -11,7 +11,7 @@ use lib.ListN.{take, drop, set, length-drop}
 use lib.Seq.{length-take-le}
 use lib.Dec.{eqb}
 use Rattle.words.specs.Lists.{up_from, entry}
-use Rattle.words.specs.Checks.{Met}
+use Rattle.words.specs.Checks.{Met, Outcome}
 use Rattle.words.specs.Bytes.{record_in, records_in, record_at}
 use Rattle.words.specs.declared.Record.{Record}
 use Rattle.words.proofs.Tests.{all_true, and-true, pick_true, pick-false}
@@ -38,6 +38,7 @@ use Rattle.verdicts.specs.Posted.{SharesOn, ShareOf}
 use Rattle.verdicts.specs.Gathered.{with_share}
 use Rattle.verdicts.specs.declared.GatheredShares.{GatheredShares}
 use Rattle.std.specs.Prelude.{Ok, Err, is_ok}
+use Rattle.words.specs.declared.refusal.Refusal.{Refusal}
 
 module _ (J : Judges) (S : Setting) (b : List ℕ) (F : ShareForm) (Ys : List ℕ) (i : ℕ) where
   pub share-address : is_share_in J S b F Ys i ≡ true → ((record_at b i).w0 ≡ F.kind) × (dealer_of (record_at b i) ≡ F.dealer)
@@ -72,19 +73,19 @@ none-of-kind J S b F Ys n =
     (λ i h e. absurd (n i h (share-address J S b F Ys i e).0)))
 
 -- ---- the shares found so far, by the answer on the next record
-module _ (S : Setting) (b : List ℕ) (F : ShareForm) (Ys : List ℕ) (i : ℕ) (H : ShareOf b F i) (A : GatheredShares) {a : ElementAnswer} (e : a ≡ share_answer judges S b F Ys i) where
-  pub with_none : {k : ℕ} → a ≡ Err k → A ≡ with_share judges S b F Ys i A
+module _ (S : Setting) (b : List ℕ) (F : ShareForm) (Ys : List ℕ) (i : ℕ) (H : ShareOf b F i) (A : GatheredShares) {a : Outcome Element} (e : a ≡ share_answer judges S b F Ys i) where
+  pub with_none : {k : Refusal} → a ≡ Err k → A ≡ with_share judges S b F Ys i A
   unfolding with_share
   with_none f =
-      sym (pick-false (is_share_in judges S b F Ys i) _ A (share-told judges S b F Ys i H ∙ ap is_ok (sym e ∙ ap f)))
+      sym (pick-false (is_share_in judges S b F Ys i) _ A (share-told judges S b F Ys i H ∙ ap is_ok (sym e ∙ f)))
 
   pub with-one : {Z : Element} (m : ℕ) → a ≡ Ok Z → m ≡ member_of (record_at b i)
       → ◌≡◌ {A = GatheredShares} (record { members = set A.members A.count m; shares = set A.shares A.count Z.0; count = A.count + 1 }) (with_share judges S b F Ys i A)
   unfolding with_share
   with-one {Z} m f h =
-      let v = share-value S b F Ys i Z (sym e ∙ ap f) in
+      let v = share-value S b F Ys i Z (sym e ∙ f) in
       (λ j. record { members = set A.members A.count (h j); shares = set A.shares A.count (v j); count = A.count + 1 })
-      ∙ sym (pick_true (is_share_in judges S b F Ys i) _ A (share-told judges S b F Ys i H ∙ ap is_ok (sym e ∙ ap f)))
+      ∙ sym (pick_true (is_share_in judges S b F Ys i) _ A (share-told judges S b F Ys i H ∙ ap is_ok (sym e ∙ f)))
 
 -- ---- on a board with an encrypted share for each member
 module _ {S : Setting} {b : List ℕ} {F : ShareForm} {Ys : List ℕ} (L : SharesOn S b F Ys) where

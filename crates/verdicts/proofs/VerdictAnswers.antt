@@ -29,6 +29,7 @@ use Rattle.verdicts.specs.declared.Secret.{Secret}
 use Rattle.verdicts.specs.declared.Verdict.TheVariants.{None, Refused, Accepted}
 use Rattle.std.specs.Prelude.{Ok, Err}
 use Rattle.words.specs.declared.refusal.Refusal.TheVariants.{Incomplete}
+use Rattle.words.specs.declared.refusal.Refusal.{Refusal}
 
 module _ (S : Setting) (b : List ℕ) (d : ℕ) (P : ProperSetting S) (m : Met (board_checks S b)) where
   state : Reached S b
@@ -101,8 +102,8 @@ module _ (S : Setting) (b : List ℕ) (d : ℕ) (P : ProperSetting S) (m : Met (
         decided : outcome (line_figure_checks S d ys lines) tt ≡ dealing_answer judges S b d
         decided = figures-decide S d ys lines lines-formed ∙ (λ i. judge_dealing_in S d (y i) (e i))
 
-        module _ {a : CheckAnswer} (j : a ≡ outcome (line_figure_checks S d ys lines) tt) where
-          pub judge-refuses : {i : ℕ} → a ≡ Err i → Refused i ≡ verdict_on judges S b d
+        module _ {a : Outcome Unit} (j : a ≡ outcome (line_figure_checks S d ys lines) tt) where
+          pub judge-refuses : {i : Refusal} → a ≡ Err i → Refused i ≡ verdict_on judges S b d
           judge-refuses r = told (ap (sym r) ∙ j ∙ decided)
 
           pub all_lines : a ≡ (Ok tt) → LinesOn S b d

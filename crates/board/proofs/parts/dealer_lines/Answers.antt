@@ -2,7 +2,7 @@
 use mathlib.Core.Path.{◌≡◌, sym, ap, ◌∙◌}
 use mathlib.Core.List.{List, [], ◌++◌}
 use Prim.Native.Nat.{ℕ, ◌*◌}
-use Rattle.words.specs.Checks.{Check, Met}
+use Rattle.words.specs.Checks.{Check, Met, Outcome}
 use Rattle.words.proofs.Checks.{value-met, refused-exactly, if-met, if-unmet}
 use Rattle.words.proofs.Stages.{met-both}
 use Rattle.sharing.specs.Setting.{setting_in, round_checks, judged, judged_else}
@@ -17,9 +17,9 @@ abbrev all_checks : List ℕ → Round → ℕ → List ℕ → List Check
 all_checks T R d b = round_checks T R ++ lines_checks (setting_in T R) d b
 
 -- every check is met where the answer passes
-passed : (T : List ℕ) (R : Round) (d : ℕ) (b : List ℕ) {a : CheckAnswer} → a ≡ lines_outcome T R d b → a ≡ (Ok tt) → Met (all_checks T R d b)
+passed : (T : List ℕ) (R : Round) (d : ℕ) (b : List ℕ) {a : Outcome Unit} → a ≡ lines_outcome T R d b → a ≡ (Ok tt) → Met (all_checks T R d b)
 unfolding lines_outcome judged
-passed T R d b e f = (value-met (all_checks T R d b) tt tt (sym e ∙ ap f)).0
+passed T R d b e f = (value-met (all_checks T R d b) tt tt (sym e ∙ f)).0
 
 pub lines_of-requires : goal.lines_of-requires
 unfolding lines_checks
@@ -34,7 +34,7 @@ returns-in-Refused c =
     let a = c.args in
     let b = a.b.now in
     let cs = all_checks a.table.now a.rd a.d b in
-    let u = (refused-exactly (Unit {0}) cs tt _).0 (sym c.lines_check.ensures ∙ ap c.in-Refused.is) in
+    let u = (refused-exactly (Unit {0}) cs tt _).0 (sym c.lines_check.ensures ∙ c.in-Refused.is) in
     record {
       result_value = sym (if-unmet (lines_of b a.d) [] cs _ u);
       ref_ptr_value = ap (λ (k : ℕ). behind k a.b.ref_ptr) (sym (if-unmet (32 * lines_start b a.d) 0 cs _ u));

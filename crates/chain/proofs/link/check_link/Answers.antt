@@ -9,6 +9,7 @@ use Rattle.words.proofs.Stages.{stage-number, stage-met, rest-number}
 use Rattle.group.specs.Table.{groups_of}
 use Rattle.chain.specs.Link.{link_round, link_value, link_group, is_link_record, link_digest, value_checks, place_checks}
 use Rattle.chain.proofs.link.check_link.Goals as goal
+use Rattle.words.specs.declared.refusal.Refusal.TheVariants.{BadForm}
 
 pub returns-then-not-is_link_record : goal.returns-then-not-is_link_record
 returns-then-not-is_link_record c = simp (sym c.is_link_record.ensures ∙ c.if-not-is_link_record.true)
@@ -16,7 +17,7 @@ returns-then-not-is_link_record c = simp (sym c.is_link_record.ensures ∙ c.if-
 pub returns-then-refused-ne0 : goal.returns-then-refused-ne0
 returns-then-refused-ne0 c =
     let front : List Check =
-    let r = c.args.figures in 4 unless is_link_record r ∷ value_checks (groups_of c.args.table.now) (link_group r) (link_value r) in
+    let r = c.args.figures in BadForm unless is_link_record r ∷ value_checks (groups_of c.args.table.now) (link_group r) (link_value r) in
     let rest : List Check =
     place_checks c.args.before c.args.round c.args.figures c.args.digest in
     let p = sym c.is_link_record.ensures ∙ c.if-not-is_link_record.false in
@@ -25,7 +26,7 @@ returns-then-refused-ne0 c =
 pub returns-then-figures-round : goal.returns-then-figures-round
 returns-then-figures-round c =
     let front : List Check =
-    let r = c.args.figures in 4 unless is_link_record r ∷ value_checks (groups_of c.args.table.now) (link_group r) (link_value r) in
+    let r = c.args.figures in BadForm unless is_link_record r ∷ value_checks (groups_of c.args.table.now) (link_group r) (link_value r) in
     let rest : List Check =
     place_checks c.args.before c.args.round c.args.figures c.args.digest in
     let met : Met front =
@@ -39,7 +40,7 @@ returns-then-figures-round c =
 pub returns-then-not-agrees : goal.returns-then-not-agrees
 returns-then-not-agrees c =
     let front : List Check =
-    let r = c.args.figures in 4 unless is_link_record r ∷ value_checks (groups_of c.args.table.now) (link_group r) (link_value r) in
+    let r = c.args.figures in BadForm unless is_link_record r ∷ value_checks (groups_of c.args.table.now) (link_group r) (link_value r) in
     let rest : List Check =
     place_checks c.args.before c.args.round c.args.figures c.args.digest in
     let met : Met front =
@@ -56,7 +57,7 @@ returns-then-not-agrees c =
 pub returns : goal.returns
 returns c =
     let front : List Check =
-    let r = c.args.figures in 4 unless is_link_record r ∷ value_checks (groups_of c.args.table.now) (link_group r) (link_value r) in
+    let r = c.args.figures in BadForm unless is_link_record r ∷ value_checks (groups_of c.args.table.now) (link_group r) (link_value r) in
     let rest : List Check =
     place_checks c.args.before c.args.round c.args.figures c.args.digest in
     let met : Met front =

@@ -1,17 +1,20 @@
--- `groups::group_of` meets its contract: where the table is refused its number is handed on, and else the look-up answers.
-use mathlib.Core.Path.{◌∙◌}
+-- `groups::group_of` meets its contract: what refuses the table is handed on, and else the look-up answers.
+use mathlib.Core.Path.{◌≡◌, ◌∙◌}
 use mathlib.Core.List.{[], ◌∷◌}
+use Rattle.std.proofs.Common.{rules}
+use Rattle.std.specs.Prelude.{Err}
 use Rattle.words.specs.Checks.{◌unless◌}
-use Rattle.words.proofs.Stages.{stage-refused, rest-outcome}
-use Rattle.group.specs.Table.{groups_of, table_checks, is_group, group_of, group_checks}
-use Rattle.group.proofs.Turns.{table-met}
+use Rattle.words.specs.declared.refusal.Refusal.TheVariants.{UnknownGroup}
+use Rattle.words.proofs.Stages.{stage-met, stage-refused, rest-outcome}
+use Rattle.group.specs.Table.{groups_of, table_checks, is_group, group_of, group_checks, group_outcome}
 use Rattle.group.proofs.groups.group_of.Goals as goal
 
-pub returns-then-refused-ne0 : goal.returns-then-refused-ne0
+pub returns-in_err-check_table : goal.returns-in_err-check_table
 unfolding group_checks
-returns-then-refused-ne0 c =
+returns-in_err-check_table c =
     let a = c.args in
-    stage-refused (table_checks a.table.now) c.check_table-refused.ensures _ c.if-refused-ne0.true _
+    let h : Err c.in_err-check_table.field-0.0 ≡ group_outcome a.table.now a.number = stage-refused (table_checks a.table.now) _ c.in_err-check_table.ensures _ in
+    search rules
 
 pub returns : goal.returns
 unfolding group_checks
@@ -19,4 +22,4 @@ returns c =
     let T = c.args.table.now in
     let k = c.args.number in
     c.group_in.ensures
-    ∙ rest-outcome (table_checks T) (1 unless is_group (groups_of T) k ∷ []) (table-met T c.check_table-refused.ensures c.if-refused-ne0.false) (group_of (groups_of T) k)
+    ∙ rest-outcome (table_checks T) (UnknownGroup unless is_group (groups_of T) k ∷ []) (stage-met (table_checks T) c.in_ok-check_table.ensures) (group_of (groups_of T) k)

@@ -11,7 +11,7 @@ use Rattle.tadlovimpe.proofs.arithmetic.tadlovimpe_digest.Goals as goal
 pub returns-in-Value : goal.returns-in-Value
 returns-in-Value c =
     let m = c.args.message.now in
-    let o = sym (ap c.in-Value.is) ∙ c.digest.ensures in
+    let o = sym (c.in-Value.is) ∙ c.digest.ensures in
     let s = value-met (digest_checks m) (hash_value m) _ (sym o) in
     record {
       value = ap number_of o;
@@ -21,7 +21,7 @@ returns-in-Value c =
 pub returns-in-Refused : goal.returns-in-Refused
 returns-in-Refused c =
     let m = c.args.message.now in
-    let o = sym (ap c.in-Refused.is) ∙ c.digest.ensures in
+    let o = sym (c.in-Refused.is) ∙ c.digest.ensures in
     record {
       value = ap number_of o;
       out_after = sym (if-unmet _ _ (digest_checks m) _ ((refused-exactly Record (digest_checks m) (hash_value m) _).0 (sym o)));

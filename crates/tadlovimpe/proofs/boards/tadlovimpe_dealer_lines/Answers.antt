@@ -20,10 +20,10 @@ use Rattle.tadlovimpe.proofs.boards.tadlovimpe_dealer_lines.Goals as goal
 use Rattle.std.specs.Prelude.{Ok}
 
 -- every check is met where the answer passes, and then the records ascend
-module _ (T : List ℕ) (R : Round) (d : ℕ) (b : List ℕ) {a : CheckAnswer} (e : a ≡ lines_outcome T R d b) (f : a ≡ (Ok tt)) where
+module _ (T : List ℕ) (R : Round) (d : ℕ) (b : List ℕ) {a : Outcome Unit} (e : a ≡ lines_outcome T R d b) (f : a ≡ (Ok tt)) where
   passed : Met (all_checks T R d b)
   unfolding lines_outcome judged
-  passed = (value-met (all_checks T R d b) tt tt (sym e ∙ ap f)).0
+  passed = (value-met (all_checks T R d b) tt tt (sym e ∙ f)).0
 
   ascending : Sorted b
   unfolding lines_checks
@@ -50,7 +50,7 @@ returns-in-Refused c =
     let a = c.args in
     let start = lines_at a.table.now a.round a.dealer a.board.now in
     let bytes = length (lines_part a.table.now a.round a.dealer a.board.now) in
-    ap (λ (o : Outcome (Unit {0})). part_of o start bytes) (sym (ap c.in-Refused.is) ∙ c.lines_check.ensures)
+    ap (λ (o : Outcome (Unit {0})). part_of o start bytes) (sym (c.in-Refused.is) ∙ c.lines_check.ensures)
 
 pub returns-in-Passed : goal.returns-in-Passed
 unfolding lines_part lines_at judged_else

@@ -5,8 +5,10 @@ use Prim.Native.Nat.{ℕ}
 use Rattle.text.specs.Text.{refused_line, draw_line}
 use Rattle.text.proofs.Writing.{room_as, written_as}
 use Rattle.text.proofs.line.put_draw.Goals as goal
+use Rattle.words.specs.Checks.{Outcome}
+use Rattle.group.specs.declared.Element.{Element}
 
-abbrev line_of : ElementAnswer → List ℕ
+abbrev line_of : Outcome Element → List ℕ
 line_of a = draw_line (a)
 
 pub put_line-requires : goal.put_line-requires
