@@ -9,6 +9,7 @@ use lib.Dec.{eqb}
 use Rattle.words.specs.Lists.{all, none_twice, entry}
 use Rattle.words.proofs.Lists.{All-append, entry_at}
 use Rattle.words.proofs.Tests.{and-true, all_true, true-all, distinct-true, true-distinct, false-twice, twice-false}
+use Rattle.words.specs.declared.refusal.Refusal.TheVariants.{NoElement, SameKey}
 use Rattle.group.specs.Element.{is_element, is_generator}
 use Rattle.group.specs.declared.Group.{Group}
 use Rattle.records.specs.Keys.{is_key, key_checks}
@@ -41,7 +42,7 @@ module _ (G : Group) (ys : List ℕ) where
 pub equal-keys : EqualKeys
 unfolding key_checks
 equal-keys G ys = (
-  ⊎_elim (λ w. absurd (omega (arith, w.1))) (λ w. ⊎_elim (λ v. key_twice G ys w.0 v.0) (λ v. absurd v.1) w.1),
+  ⊎_elim (λ w. let e : NoElement ≡ SameKey = w.1 in cc) (λ w. ⊎_elim (λ v. key_twice G ys w.0 v.0) (λ v. absurd v.1) w.1),
   λ T. inr (true-all (is_key G) ys T.keys, inl (twice-key G ys T, refl)),
 )
 
@@ -55,5 +56,5 @@ keys-proper G ys = (
 pub distinct-met : DistinctMet
 unfolding key_checks
 distinct-met G ys d front behind m k =
-    All-append (λ c. c.number ≡ 22 → c.met ≡ true) front (key_checks G ys ++ behind) m
-    (λ e. absurd (omega (arith, e)), (λ e. true-distinct ys d, k))
+    All-append (λ c. c.by ≡ SameKey → c.met ≡ true) front (key_checks G ys ++ behind) m
+    (λ e. let d : NoElement ≡ SameKey = e in cc, (λ e. true-distinct ys d, k))

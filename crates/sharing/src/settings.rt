@@ -40,9 +40,7 @@ fn takes_whole(first: u32, round: u32) -> bool
 pub fn setting_in(table: &[u8], rd: Round) -> Result<Setting, Refusal>
     ensures { result ≡ figures_outcome table.now rd }
 {
-    let Ok(gr) = group_in(table, rd.group) else {
-        return Err(Refusal::UnknownGroup);
-    };
+    let gr = group_in(table, rd.group)?;
     if !in_range(gr.q, rd.n, rd.t) {
         return Err(Refusal::OutOfRange);
     }
