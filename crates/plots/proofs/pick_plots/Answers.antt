@@ -18,6 +18,6 @@ unfolding pick_outcome pick_in lent_plots lent_plots_in
 returns-in-Value c =
     let e = c.group_of.ensures in
     record {
-      result_value = c.pick_plots_in.ensures.result_value ∙ in-group-value _ _ _ _ e c.in-Value.is;
-      out_after = c.pick_plots_in.ensures.out_after ∙ in-group-lent _ _ _ _ e c.in-Value.is _;
+      result_value = c.pick_plots_in.ensures.result_value ∙ in-group-value _ _ _ _ e c.in-Ok.is;
+      out_after = c.pick_plots_in.ensures.out_after ∙ in-group-lent _ _ _ _ e c.in-Ok.is _;
     }

@@ -19,8 +19,8 @@ pub put_report-requires : goal.put_report-requires
 put_report-requires c =
     let a = c.args in
     let I = c.judge_files-ruling.ensures in (
-      (ruling-settled judges _ _ _ c.judge_files-ruling.result I _ c.in-Value.is).proper.n-most,
-      room_as (reported-text judges _ _ _ c.judge_files-ruling.result I c.in-Value.is)
+      (ruling-settled judges _ _ _ c.judge_files-ruling.result I _ c.in-Ok.is).proper.n-most,
+      room_as (reported-text judges _ _ _ c.judge_files-ruling.result I c.in-Ok.is)
           (text-room a.out.now (omega arith) judges a.table.now a.set.now a.board.now),
     )
 
@@ -35,4 +35,4 @@ pub returns-in-Value : goal.returns-in-Value
 returns-in-Value c =
     let a = c.args in
     at-start _ a.out.now _ _
-    (written_as (reported-text judges _ _ _ c.judge_files-ruling.result c.judge_files-ruling.ensures c.in-Value.is) c.put_report.ensures)
+    (written_as (reported-text judges _ _ _ c.judge_files-ruling.result c.judge_files-ruling.ensures c.in-Ok.is) c.put_report.ensures)

@@ -11,8 +11,8 @@ pub returns-then-k-ne0 : goal.returns-then-k-ne0
 unfolding lines_outcome
 returns-then-k-ne0 c =
     let a = c.args in
-    last-refused (lines_checks c.in-Value.s a.d a.b.now) c.check_lines-k.ensures c.if-k-ne0.true tt
-    ∙ judged-value _ _ _ _ c.setting_of.ensures c.in-Value.is
+    last-refused (lines_checks c.in-Ok.s a.d a.b.now) c.check_lines-k.ensures c.if-k-ne0.true tt
+    ∙ judged-value _ _ _ _ c.setting_of.ensures c.in-Ok.is
 
 pub returns-in-Refused : goal.returns-in-Refused
 unfolding lines_outcome
@@ -22,7 +22,7 @@ pub returns-else-k-ne0 : goal.returns-else-k-ne0
 unfolding lines_outcome
 returns-else-k-ne0 c =
     let a = c.args in
-    let S = c.in-Value.s in
+    let S = c.in-Ok.s in
     let m = lines-met S a.b.now a.d (sym c.check_lines-k.ensures ∙ c.if-k-ne0.false) in
     sym ((value-exactly (Unit {0}) (lines_checks S a.d a.b.now) tt).1 m)
-    ∙ judged-value _ _ _ _ c.setting_of.ensures c.in-Value.is
+    ∙ judged-value _ _ _ _ c.setting_of.ensures c.in-Ok.is

@@ -7,10 +7,10 @@ returns-in_default c = simp (group-refused _ _ c.group_in.ensures c.in_default.i
 
 pub returns-then-not-is_element : goal.returns-then-not-is_element
 returns-then-not-is_element c =
-    let g = group-value _ _ c.group_in.ensures c.in-Value.is in
+    let g = group-value _ _ c.group_in.ensures c.in-Ok.is in
     simp (g.0, g.1, ← c.is_element.ensures, c.if-not-is_element.true)
 
 pub returns : goal.returns
 returns c =
-    let g = group-value _ _ c.group_in.ensures c.in-Value.is in
+    let g = group-value _ _ c.group_in.ensures c.in-Ok.is in
     simp (g.0, g.1, ← c.is_element.ensures, c.if-not-is_element.false)

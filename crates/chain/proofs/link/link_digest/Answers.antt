@@ -19,4 +19,4 @@ pub returns : goal.returns
 returns c =
     let a = c.args in
     let m = message-put a.before c.write_record.ensures a.value.0 a.round c.put_word.ensures c.put_word-2.ensures in
-    sym (answer-value c.put_word-2.new.b c.digest.ensures c.in-Value.is) ∙ ap hash_value m
+    sym (answer-value c.put_word-2.new.b c.digest.ensures c.in-Ok.is) ∙ ap hash_value m

@@ -24,4 +24,4 @@ returns-in_default c =
 pub returns : goal.returns
 unfolding challenge_of hash
 returns c =
-    c.exponent_of.ensures ∙ ap (λ (d : Record). exponent_of c.args.s (record_bytes d)) (sym (answer-value (take c.args.k c.args.m.now) c.digest.ensures c.in-Value.is))
+    c.exponent_of.ensures ∙ ap (λ (d : Record). exponent_of c.args.s (record_bytes d)) (sym (answer-value (take c.args.k c.args.m.now) c.digest.ensures c.in-Ok.is))

@@ -5,7 +5,7 @@ use Rattle.dealing.specs.Dealing.{judge_dealing_in, judge_dealing_outcome}
 use Rattle.dealing.proofs.judge.judge_dealing.Goals as goal
 
 pub judge_dealing_in-requires : goal.judge_dealing_in-requires
-judge_dealing_in-requires c = setting-proper _ _ c.setting_of.ensures c.in-Value.is
+judge_dealing_in-requires c = setting-proper _ _ c.setting_of.ensures c.in-Ok.is
 
 pub returns-in-Refused : goal.returns-in-Refused
 unfolding judge_dealing_outcome
@@ -13,4 +13,4 @@ returns-in-Refused c = judged-refused _ _ _ _ c.setting_of.ensures c.in-Refused.
 
 pub returns-in-Value : goal.returns-in-Value
 unfolding judge_dealing_outcome judge_dealing_in
-returns-in-Value c = c.judge_dealing_in.ensures ∙ judged-value _ _ _ _ c.setting_of.ensures c.in-Value.is
+returns-in-Value c = c.judge_dealing_in.ensures ∙ judged-value _ _ _ _ c.setting_of.ensures c.in-Ok.is

@@ -5,7 +5,7 @@ use Rattle.dealing.specs.Dealing.{write_dealing_in, write_dealing_outcome, lent_
 use Rattle.dealing.proofs.writer.write_dealing.Goals as goal
 
 pub write_dealing_in-requires : goal.write_dealing_in-requires
-write_dealing_in-requires c = setting-proper _ _ c.setting_of.ensures c.in-Value.is
+write_dealing_in-requires c = setting-proper _ _ c.setting_of.ensures c.in-Ok.is
 
 pub returns-in-Refused : goal.returns-in-Refused
 unfolding write_dealing_outcome lent_dealing
@@ -21,6 +21,6 @@ unfolding write_dealing_outcome write_dealing_in lent_dealing lent_dealing_in
 returns-in-Value c =
     let e = c.setting_of.ensures in
     record {
-      result_value = c.write_dealing_in.ensures.result_value ∙ judged-value _ _ _ _ e c.in-Value.is;
-      out_after = c.write_dealing_in.ensures.out_after ∙ judged-lent _ _ _ _ e c.in-Value.is _;
+      result_value = c.write_dealing_in.ensures.result_value ∙ judged-value _ _ _ _ e c.in-Ok.is;
+      out_after = c.write_dealing_in.ensures.out_after ∙ judged-lent _ _ _ _ e c.in-Ok.is _;
     }

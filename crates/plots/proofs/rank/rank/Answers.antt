@@ -15,4 +15,4 @@ returns-in_default c =
 pub returns : goal.returns
 returns c =
     let a = c.args in
-    rank-value a.value.0 a.radius a.plot (message-put a.value.0 a.radius a.plot c.put_word.ensures c.put_word-2.ensures) c.digest.ensures c.in-Value.is
+    rank-value a.value.0 a.radius a.plot (message-put a.value.0 a.radius a.plot c.put_word.ensures c.put_word-2.ensures) c.digest.ensures c.in-Ok.is

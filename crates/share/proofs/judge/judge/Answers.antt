@@ -5,7 +5,7 @@ use Rattle.share.specs.Share.{judge_share_in, judge_share_outcome}
 use Rattle.share.proofs.judge.judge.Goals as goal
 
 pub judge_in-requires : goal.judge_in-requires
-judge_in-requires c = setting-proper _ _ c.setting_of.ensures c.in-Value.is
+judge_in-requires c = setting-proper _ _ c.setting_of.ensures c.in-Ok.is
 
 pub returns-in-Refused : goal.returns-in-Refused
 unfolding judge_share_outcome
@@ -13,4 +13,4 @@ returns-in-Refused c = judged-refused _ _ _ _ c.setting_of.ensures c.in-Refused.
 
 pub returns-in-Value : goal.returns-in-Value
 unfolding judge_share_outcome judge_share_in
-returns-in-Value c = c.judge_in.ensures ∙ judged-value _ _ _ _ c.setting_of.ensures c.in-Value.is
+returns-in-Value c = c.judge_in.ensures ∙ judged-value _ _ _ _ c.setting_of.ensures c.in-Ok.is

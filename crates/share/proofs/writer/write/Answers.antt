@@ -5,7 +5,7 @@ use Rattle.share.specs.Share.{write_share_in, write_share_outcome, lent_after_sh
 use Rattle.share.proofs.writer.write.Goals as goal
 
 pub write_in-requires : goal.write_in-requires
-write_in-requires c = setting-proper _ _ c.setting_of.ensures c.in-Value.is
+write_in-requires c = setting-proper _ _ c.setting_of.ensures c.in-Ok.is
 
 pub returns-in-Refused : goal.returns-in-Refused
 unfolding write_share_outcome lent_after_share
@@ -18,6 +18,6 @@ unfolding write_share_outcome write_share_in lent_after_share lent_after_share_i
 returns-in-Value c =
     let e = c.setting_of.ensures in
     record {
-      result_value = c.write_in.ensures.result_value ∙ judged-value _ _ _ _ e c.in-Value.is;
-      out_after = c.write_in.ensures.out_after ∙ judged-lent _ _ _ _ e c.in-Value.is _;
+      result_value = c.write_in.ensures.result_value ∙ judged-value _ _ _ _ e c.in-Ok.is;
+      out_after = c.write_in.ensures.out_after ∙ judged-lent _ _ _ _ e c.in-Ok.is _;
     }

@@ -2,7 +2,7 @@
 use Rattle.tadlovimpe.proofs.answers.answer_of.Goals as goal
 
 pub returns-in-Value : goal.returns-in-Value
-returns-in-Value c = simp c.in-Value.is
+returns-in-Value c = simp c.in-Ok.is
 
 pub returns-in-Refused : goal.returns-in-Refused
 returns-in-Refused c = simp c.in-Refused.is

@@ -11,7 +11,7 @@ use Rattle.tadlovimpe.proofs.arithmetic.tadlovimpe_digest.Goals as goal
 pub returns-in-Value : goal.returns-in-Value
 returns-in-Value c =
     let m = c.args.message.now in
-    let o = sym (c.in-Value.is) ∙ c.digest.ensures in
+    let o = sym (c.in-Ok.is) ∙ c.digest.ensures in
     let s = value-met (digest_checks m) (hash_value m) _ (sym o) in
     record {
       value = ap number_of o;

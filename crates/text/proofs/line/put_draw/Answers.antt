@@ -12,14 +12,14 @@ abbrev line_of : Outcome Element → List ℕ
 line_of a = draw_line (a)
 
 pub put_line-requires : goal.put_line-requires
-put_line-requires c = room_as (ap line_of c.in-Value.is) c.requires
+put_line-requires c = room_as (ap line_of c.in-Ok.is) c.requires
 
 pub put_line-requires-in-Refused : goal.put_line-requires-in-Refused
 unfolding refused_line
 put_line-requires-in-Refused c = room_as (ap line_of c.in-Refused.is) c.requires
 
 pub returns-in-Value : goal.returns-in-Value
-returns-in-Value c = written_as (ap line_of c.in-Value.is) c.put_line.ensures
+returns-in-Value c = written_as (ap line_of c.in-Ok.is) c.put_line.ensures
 
 pub returns-in-Refused : goal.returns-in-Refused
 unfolding refused_line

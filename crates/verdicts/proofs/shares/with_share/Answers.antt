@@ -13,4 +13,4 @@ returns-in_default c =
 pub returns : goal.returns
 returns c =
     let a = c.args in
-    with-one a.s a.b.now a.form a.encrypted.now a.i c.requires.0 a.found c.accepted_share.ensures _ c.in-Value.is (ap (λ (r : Record). member_of r) c.record_at-member.ensures)
+    with-one a.s a.b.now a.form a.encrypted.now a.i c.requires.0 a.found c.accepted_share.ensures _ c.in-Ok.is (ap (λ (r : Record). member_of r) c.record_at-member.ensures)

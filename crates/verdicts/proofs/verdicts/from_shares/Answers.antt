@@ -18,4 +18,4 @@ returns-in-Refused c =
 pub returns-in-Value : goal.returns-in-Value
 returns-in-Value c =
     let a = c.args in
-    from-value a.s a.b.now a.d c.opened_form.ensures c.requires.1 _ c.from_lowest.ensures c.in-Value.is
+    from-value a.s a.b.now a.d c.opened_form.ensures c.requires.1 _ c.from_lowest.ensures c.in-Ok.is
