@@ -1,5 +1,5 @@
 -- The message schedule, word by word: what each word is made of, and an array that is filled with the words in order.
-use Rattle.std.proofs.Common.{◌≡◌, ℕ, zero, suc, ◌+◌, ◌-◌, ◌<◌, ◌≤◌, List, [], ◌∷◌, ◌++◌, length, get_or, take, set, replicate, sym, refl, ap, ◌∙◌, append-nil, add-one, arith, length-append, get_or-take, le-ltb, lt-ltb}
+use Rattle.std.proofs.Common.{◌≡◌, ℕ, zero, suc, ◌+◌, ◌-◌, ◌<◌, ◌≤◌, List, [], ◌∷◌, ◌++◌, length, get_or, take, set, replicate, sym, refl, ap, ◌∙◌, append-nil, add-one, arith, take-suc, take_all, length-append, get_or-take, le-ltb, lt-ltb}
 use Rattle.words.specs.Lists.{filled}
 use Rattle.words.proofs.Lists.{filled-front, filled_next}
 use Rattle.sha256.specs.Hash.{later, W, schedule}
@@ -22,6 +22,19 @@ schedule-length : (m : List ℕ) (t : ℕ) → length (schedule m t) ≡ t
 unfolding schedule
 schedule-length m zero = refl
 schedule-length m (suc t) = length-append (schedule m t) (W m (schedule m t) t ∷ []) ∙ omega (arith, schedule-length m t)
+
+-- the first words are those of the block
+schedule-first : (m : List ℕ) (t : ℕ) → t ≤ 16 → t ≤ length m → schedule m t ≡ take t m
+unfolding schedule
+schedule-first m zero h l = refl
+schedule-first m (suc t) h l =
+    (λ j. schedule-first m t (omega arith) (omega arith) j ++ (W-first m (schedule m t) t (omega arith) j ∷ [])) ∙ sym (take-suc m t 0 l)
+
+pub first-filled : (m : List ℕ) → length m ≡ 16 → m ++ replicate 48 0 ≡ filled 64 (schedule m 16)
+unfolding filled
+first-filled m h =
+    let e : schedule m 16 ≡ m = schedule-first m 16 (omega arith) (omega arith) ∙ take_all 16 m (omega arith) in
+    rw (e, h) refl
 
 -- an array that holds the first t words, and 0 behind them
 module _ (m w : List ℕ) (t : ℕ) (e : w ≡ filled 64 (schedule m t)) where

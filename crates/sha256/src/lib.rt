@@ -27,13 +27,9 @@ pub fn digest(s: &[u8]) -> DigestAnswer
     if 65536 < s.len() {
         return DigestAnswer::Refused(refusal::BAD_LENGTH);
     }
-    let count = padding::blocks(s);
     let mut state = State::new();
-    let mut i: usize = 0;
-    while i < count {
-        let m = padding::block(s, i);
-        state = state.absorb(&m);
-        i += 1;
+    for i in 0..padding::blocks(s) {
+        state = state.absorb(&padding::block(s, i));
     }
     DigestAnswer::Value(state.hash_value())
 }

@@ -11,11 +11,7 @@ fn first_words(m: &[u32; 16]) -> [u32; 64]
     ensures { result ≡ filled 64 (schedule m.now 16) }
 {
     let mut w = [0u32; 64];
-    let mut t: usize = 0;
-    while t < 16 {
-        w[t] = m[t];
-        t += 1;
-    }
+    w[..16].copy_from_slice(m);
     w
 }
 
@@ -34,10 +30,8 @@ pub(crate) fn schedule(m: &[u32; 16]) -> [u32; 64]
     ensures { result ≡ schedule m.now 64 }
 {
     let mut w = first_words(m);
-    let mut t: usize = 16;
-    while t < 64 {
+    for t in 16..64 {
         w[t] = later_word(&w, t);
-        t += 1;
     }
     w
 }

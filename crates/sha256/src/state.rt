@@ -3,7 +3,7 @@ ghost use Rattle.std.specs.Prelude.{◌≡◌};
 ghost use Rattle.sha256.specs.Constants.{initial};
 ghost use Rattle.sha256.specs.Hash.{round, rounds, compress, state_record};
 
-use crate::constants::constants;
+use crate::constants::K;
 use crate::schedule::schedule;
 use crate::word::{big_sigma0, big_sigma1, ch, maj};
 use std::num::wrapping_add_u32;
@@ -62,12 +62,9 @@ impl State {
     fn rounds(mut self, w: &[u32; 64]) -> Self
         ensures { result ≡ rounds w.now self 64 }
     {
-        let k = constants();
-        let mut t: usize = 0;
-        while t < 64 {
-            self = self.round(k[t], w[t]);
-            self = self.round(k[t + 1], w[t + 1]);
-            t += 2;
+        for t in 0..32 {
+            self = self.round(K[2 * t], w[2 * t]);
+            self = self.round(K[2 * t + 1], w[2 * t + 1]);
         }
         self
     }
