@@ -4,12 +4,12 @@ use Rattle.words.specs.Lists.{filled}
 use Rattle.words.proofs.Lists.{filled-front, filled_next}
 use Rattle.sha256.specs.Hash.{later, W, schedule}
 
-pub W-first : (m w : List ℕ) (t : ℕ) → t < 16 → W m w t ≡ get_or m t 0
+W-first : (m w : List ℕ) (t : ℕ) → t < 16 → W m w t ≡ get_or m t 0
 unfolding W
 W-first m w t h = rw (lt-ltb t 16)
 
 -- a later word depends only on words below it
-pub W-later : (m w : List ℕ) (t : ℕ) → 16 ≤ t → W m (take t w) t ≡ later w t
+W-later : (m w : List ℕ) (t : ℕ) → 16 ≤ t → W m (take t w) t ≡ later w t
 unfolding W later
 W-later m w t h =
     let h2 : t - 2 < t = omega arith in
@@ -48,13 +48,8 @@ module _ (m w : List ℕ) (t : ℕ) (e : w ≡ filled 64 (schedule m t)) where
       e ∙ ap (λ (k : ℕ). schedule m t ++ replicate k 0) none ∙ append-nil (schedule m t) ∙ ap (schedule m) f
 
   -- a store of word t
-  module _ (v : ℕ) (room : t < 64) where
-    next : v ≡ W m (schedule m t) t → set w t v ≡ filled 64 (schedule m (t + 1))
-    unfolding schedule
-    next f = filled_next 64 t (schedule m t) (schedule-length m t) e v room (rw (add-one t) cc)
-
-    pub first_next : t < 16 → v ≡ get_or m t 0 → set w t v ≡ filled 64 (schedule m (t + 1))
-    first_next h f = next (f ∙ sym (W-first m (schedule m t) t h))
-
-    pub later-next : 16 ≤ t → v ≡ later w t → set w t v ≡ filled 64 (schedule m (t + 1))
-    later-next h f = next (f ∙ sym (W-later m w t h) ∙ ap (λ (l : List ℕ). W m l t) words-stand)
+  pub later-next : (v : ℕ) → t < 64 → 16 ≤ t → v ≡ later w t → set w t v ≡ filled 64 (schedule m (t + 1))
+  unfolding schedule
+  later-next v room h f =
+      let word : v ≡ W m (schedule m t) t = f ∙ sym (W-later m w t h) ∙ ap (λ (l : List ℕ). W m l t) words-stand in
+      filled_next 64 t (schedule m t) (schedule-length m t) e v room (rw (add-one t) cc)

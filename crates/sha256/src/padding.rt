@@ -30,13 +30,12 @@ fn end_word(s: &[u8], k: usize) -> u32
     requires { (length s.now ≤ 65536) × (k + 8 ≤ length (pad s.now)) }
     ensures { result ≡ word_at (pad s.now) k }
 {
-    let b = [
+    u32::from_be_bytes([
         padded_byte(s, k),
         padded_byte(s, k + 1),
         padded_byte(s, k + 2),
         padded_byte(s, k + 3),
-    ];
-    words::word_at(&b, 0)
+    ])
 }
 
 // Word j of the padded message.

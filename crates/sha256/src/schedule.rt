@@ -4,7 +4,6 @@ ghost use Rattle.words.specs.Lists.{filled};
 ghost use Rattle.sha256.specs.Hash.{later, schedule};
 
 use crate::word::{small_sigma0, small_sigma1};
-use std::num::wrapping_add_u32;
 
 // The first sixteen words, and 0 in the places of those that follow.
 fn first_words(m: &[u32; 16]) -> [u32; 64]
@@ -20,9 +19,10 @@ fn later_word(w: &[u32; 64], t: usize) -> u32
     requires { (16 ≤ t) × (t < 64) }
     ensures { result ≡ later w.now t }
 {
-    let x = wrapping_add_u32(small_sigma1(w[t - 2]), w[t - 7]);
-    let y = wrapping_add_u32(x, small_sigma0(w[t - 15]));
-    wrapping_add_u32(y, w[t - 16])
+    small_sigma1(w[t - 2])
+        .wrapping_add(w[t - 7])
+        .wrapping_add(small_sigma0(w[t - 15]))
+        .wrapping_add(w[t - 16])
 }
 
 // The 64 words of the schedule of a block.
