@@ -130,7 +130,7 @@ module _ (b : List ℕ) (f : ℕ → Bool) (t : every_share b f ≡ true) where
       let s = share-address judges small b (opened_form d) (encrypted_of small b d) i e in
       let g : ℕ → Bool = λ k. pick (eqb (record_at b k).w0 share_kind) (eqb (dealer_of (record_at b k)) 1 && f k) true in
       let k : get_or (up_from 0 (records_in b)) i 0 ≡ i = up_at 0 (records_in b) i h ∙ omega arith in
-      let at = sym (ap g k) ∙ all-at g (up_from 0 (records_in b)) i 0 (rw up-length h) t in
+      let at = sym (g k) ∙ all-at g (up_from 0 (records_in b)) i 0 (rw up-length h) t in
       let two = and-true (eqb (dealer_of (record_at b i)) 1) (f i) (sym (pick_true (eqb (record_at b i).w0 share_kind) _ true (eq-eqb _ share_kind s.0)) ∙ at) in
       (sym (eqb-true _ 1 two.0) ∙ s.1, two.1)
 

@@ -1,16 +1,13 @@
--- What the loops of `inverse`, `value_at` and `is_prime` keep, with laws for their start, their turns and their end.
+-- What the loops of `inverse`, `value_at` and `is_prime` keep, with laws for their turns, and for a start and an end that do not follow at once.
 use mathlib.Core.Path.{◌≡◌, refl, sym, ap, ◌∙◌}
 use mathlib.Core.Bool.{Bool, true, false}
-use mathlib.Core.List.{List}
+use mathlib.Core.List.{List, [], ◌∷◌, ◌++◌, append_assoc}
 use Prim.Native.Nat.{ℕ, ◌+◌, ◌-◌, ◌*◌, ◌/◌, ◌%◌, ◌≤◌, ◌<◌}
 use native.Mathlib.Nat.{mod-lt, mod-eq_of_lt, add-mod-mod, div-add-mod, le_trans, mul-le-mul_right, le-div_iff_mul-le, div-lt_iff_lt-mul}
-use native.Mathlib.Decide.{dec_lt}
 use native.Mathlib.Omega.{arith}
 use borrow.Author.Tests.{eqb-true, eqb-false}
 use lib.Dec.{eqb}
-use lib.ListN.{length, drop, get_or}
-use lib.Seq.{drop-length}
-use Rattle.words.proofs.Lists.{drop-back}
+use Rattle.std.specs.List.{push}
 use Rattle.field.specs.Residue.{add, mul, inv}
 use Rattle.field.specs.Prime.{Prime, is_prime}
 use Rattle.field.specs.Polynomial.{value_at}
@@ -42,14 +39,22 @@ module _ (m : ℕ) (P : Prime m) (a : ℕ) where
   descent-end g h t x l d =
       inv_unique m P a t (rw (mod-eq_of_lt h) g) d.t-below (d.product ∙ omega (arith, d.x_pos))
 
--- ---- the value at x of the coefficients from the i-th on
-pub horner-start : (m : ℕ) (cs : List ℕ) (x : ℕ) → 0 ≡ value_at m (drop (length cs) cs) x
-horner-start m cs x = rw drop-length
+-- ---- the value at x of the coefficients behind those that are left
+pub record Horner (m : ℕ) (cs : List ℕ) (x : ℕ) (left : List ℕ) (r : ℕ) : Type 0 where
+  pub taken : List ℕ
+  pub parts : cs ≡ left ++ taken
+  pub value : r ≡ value_at m taken x
+  pub below : r < m
 
-pub horner-next : (m : ℕ) (cs : List ℕ) (x i r : ℕ) → 0 < i → i ≤ length cs → r ≡ value_at m (drop i cs) x
-    → (get_or cs (i - 1) 0 + x * r) % m ≡ value_at m (drop (i - 1) cs) x
+pub horner-next : (m : ℕ) → 0 < m → (cs : List ℕ) (x : ℕ) (left : List ℕ) (c r : ℕ) → Horner m cs x (push left c) r → Horner m cs x left ((c + x * r) % m)
 unfolding add mul
-horner-next m cs x i r h l e = rw (e, drop-back cs i 0 h l) (sym (add-mod-mod _ _ _))
+horner-next m h cs x left c r t =
+    record {
+      taken = c ∷ t.taken;
+      parts = t.parts ∙ append_assoc left (c ∷ []) t.taken;
+      value = rw t.value (sym (add-mod-mod _ _ _));
+      below = mod-lt _ h;
+    }
 
 -- ---- the test of a prime: no odd number below d divides m, and k is the quotient by d
 pub record Trial (m d k : ℕ) : Type 0 where
@@ -76,30 +81,13 @@ module _ (m : ℕ) where
       go true e = sym (ap is_prime (eqb-true m 2 e))
       go false e = sym (composite 2 (omega arith) (omega (arith, eqb-false m 2 e)) z)
 
-  pub trial-start : 0 < m % 2 → Trial m 3 (m / 3)
-  trial-start h = record { m-odd = h; d-odd = omega arith; d-high = omega arith; odds = λ c g l o z. omega arith; quotient = refl }
-
   module _ (d k : ℕ) (t : Trial m d k) where
     whole : d * k + m % d ≡ m
     whole = ap (λ (x : ℕ). d * x + m % d) t.quotient ∙ div-add-mod m d
 
-    pub product-most : d * k ≤ m
-    product-most = omega (arith, whole)
-
     -- 3 * d ≤ d * d ≤ m
-    pub trial-room : d ≤ k → 3 * d ≤ m
+    trial-room : d ≤ k → 3 * d ≤ m
     trial-room l = le_trans (mul-le-mul_right d t.d-high) ((le-div_iff_mul-le (omega (arith, t.d-high))).0 (omega (arith, t.quotient)))
-
-    pub trial-next : (d * k ≡ m → ⊥) → Trial m (d + 2) (m / (d + 2))
-    trial-next n =
-        record { m-odd = t.m-odd; d-odd = omega (arith, t.d-odd); d-high = omega (arith, t.d-high); odds = odds; quotient = refl }
-      where
-        odds : OddsTried m (d + 2)
-        odds c g l o z =
-            elim (dec_lt c d) [
-              | yes b ↦ t.odds c g b o z
-              | no b ↦ let e : c ≡ d = omega (arith, t.d-odd) in let f : m % d ≡ 0 = rw e at z in n (omega (arith, whole, f))
-            ]
 
     pub trial-stop : d ≤ k → d * k ≡ m → is_prime m ≡ false
     trial-stop l e = composite d (omega (arith, t.d-high)) (omega (arith, t.d-high, trial-room l)) (omega (arith, whole, e))

@@ -33,6 +33,7 @@ pub fn inverse(m: u32, a: u32) -> u32
 {
     let mut t: u32 = 1;
     let mut x = a;
+    // No counted loop: x goes to the rest of m by x, as in Euclid's algorithm.
     while x > 1 {
         t = mul(m, t, m - m / x);
         x = m % x;
@@ -47,10 +48,8 @@ pub fn value_at(m: u32, cs: &[u32], x: u32) -> u32
     ensures { result ≡ value_at m cs.now x }
 {
     let mut r: u64 = 0;
-    let mut i = cs.len();
-    while i > 0 {
-        i -= 1;
-        r = (cs[i] as u64 + x as u64 * r) % (m as u64);
+    for &c in cs.iter().rev() {
+        r = (c as u64 + x as u64 * r) % (m as u64);
     }
     r as u32
 }

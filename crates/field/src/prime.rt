@@ -15,6 +15,7 @@ pub fn is_prime(m: u32) -> bool
     }
     let mut d: u32 = 3;
     let mut k = m / d;
+    // No counted loop: its end depends on k, which each turn works out anew.
     while d <= k {
         if d * k == m {
             return false;

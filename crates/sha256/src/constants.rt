@@ -1,8 +1,6 @@
 // The constants of the rounds, FIPS 180-4, section 4.2.2.
-ghost use Rattle.std.specs.Prelude.{◌≡◌};
-ghost use Rattle.sha256.specs.Constants.{K};
 
-const K: [u32; 64] = [
+pub(crate) static K: [u32; 64] = [
     0x428a_2f98,
     0x7137_4491,
     0xb5c0_fbcf,
@@ -68,10 +66,3 @@ const K: [u32; 64] = [
     0xbef9_a3f7,
     0xc671_78f2,
 ];
-
-// The table as an array, to be made once for all the rounds of a block.
-pub(crate) fn constants() -> [u32; 64]
-    ensures { result ≡ K }
-{
-    K
-}

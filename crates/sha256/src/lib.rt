@@ -20,13 +20,9 @@ pub fn digest(s: &[u8]) -> Result<Record, Refusal>
     if 65536 < s.len() {
         return Err(Refusal::BadLength);
     }
-    let count = padding::blocks(s);
     let mut state = State::new();
-    let mut i: usize = 0;
-    while i < count {
-        let m = padding::block(s, i);
-        state = state.absorb(&m);
-        i += 1;
+    for i in 0..padding::blocks(s) {
+        state = state.absorb(&padding::block(s, i));
     }
     Ok(state.hash_value())
 }

@@ -16,14 +16,13 @@ fn padded_byte(s: &[u8], i: usize) -> u8
     requires { (length s.now ≤ 65536) × (i + 4 < length (pad s.now)) }
     ensures { result ≡ slice_index (pad s.now) i }
 {
-    let n = s.len();
-    if i < n {
-        return s[i];
+    if i < s.len() {
+        s[i]
+    } else if i == s.len() {
+        128
+    } else {
+        0
     }
-    if i == n {
-        return 128;
-    }
-    0
 }
 
 // The word from byte k on, put together byte by byte: the one in which the message ends.
@@ -31,13 +30,12 @@ fn end_word(s: &[u8], k: usize) -> u32
     requires { (length s.now ≤ 65536) × (k + 8 ≤ length (pad s.now)) }
     ensures { result ≡ word_at (pad s.now) k }
 {
-    let b = [
+    u32::from_be_bytes([
         padded_byte(s, k),
         padded_byte(s, k + 1),
         padded_byte(s, k + 2),
         padded_byte(s, k + 3),
-    ];
-    words::word_at(&b, 0)
+    ])
 }
 
 // Word j of the padded message.
@@ -45,18 +43,16 @@ fn padded_word(s: &[u8], j: usize) -> u32
     requires { (length s.now ≤ 65536) × (j < 16 * blocks (pad s.now)) }
     ensures { result ≡ word_at (pad s.now) (4 * j) }
 {
-    let n = s.len();
     let k = 4 * j;
-    if k + 4 <= n {
-        return words::word_at(s, k);
+    if k + 4 <= s.len() {
+        words::word_at(s, k)
+    } else if k <= s.len() {
+        end_word(s, k)
+    } else if j + 1 == 16 * blocks(s) {
+        (8 * s.len()) as u32
+    } else {
+        0
     }
-    if k <= n {
-        return end_word(s, k);
-    }
-    if j + 1 == 16 * blocks(s) {
-        return (8 * n) as u32;
-    }
-    0
 }
 
 // The sixteen words of block i of the padded message.
@@ -65,10 +61,8 @@ pub(crate) fn block(s: &[u8], i: usize) -> [u32; 16]
     ensures { result ≡ block (pad s.now) i }
 {
     let mut m = [0u32; 16];
-    let mut j: usize = 0;
-    while j < 16 {
+    for j in 0..16 {
         m[j] = padded_word(s, 16 * i + j);
-        j += 1;
     }
     m
 }

@@ -4,18 +4,13 @@ ghost use Rattle.words.specs.Lists.{filled};
 ghost use Rattle.sha256.specs.Hash.{later, schedule};
 
 use crate::word::{small_sigma0, small_sigma1};
-use std::num::wrapping_add_u32;
 
 // The first sixteen words, and 0 in the places of those that follow.
 fn first_words(m: &[u32; 16]) -> [u32; 64]
     ensures { result ≡ filled 64 (schedule m.now 16) }
 {
     let mut w = [0u32; 64];
-    let mut t: usize = 0;
-    while t < 16 {
-        w[t] = m[t];
-        t += 1;
-    }
+    w[..16].copy_from_slice(m);
     w
 }
 
@@ -24,9 +19,10 @@ fn later_word(w: &[u32; 64], t: usize) -> u32
     requires { (16 ≤ t) × (t < 64) }
     ensures { result ≡ later w.now t }
 {
-    let x = wrapping_add_u32(small_sigma1(w[t - 2]), w[t - 7]);
-    let y = wrapping_add_u32(x, small_sigma0(w[t - 15]));
-    wrapping_add_u32(y, w[t - 16])
+    small_sigma1(w[t - 2])
+        .wrapping_add(w[t - 7])
+        .wrapping_add(small_sigma0(w[t - 15]))
+        .wrapping_add(w[t - 16])
 }
 
 // The 64 words of the schedule of a block.
@@ -34,10 +30,8 @@ pub(crate) fn schedule(m: &[u32; 16]) -> [u32; 64]
     ensures { result ≡ schedule m.now 64 }
 {
     let mut w = first_words(m);
-    let mut t: usize = 16;
-    while t < 64 {
+    for t in 16..64 {
         w[t] = later_word(&w, t);
-        t += 1;
     }
     w
 }

@@ -3,10 +3,9 @@ ghost use Rattle.std.specs.Prelude.{◌≡◌};
 ghost use Rattle.sha256.specs.Constants.{initial};
 ghost use Rattle.sha256.specs.Hash.{round, rounds, compress, state_record};
 
-use crate::constants::constants;
+use crate::constants::K;
 use crate::schedule::schedule;
 use crate::word::{big_sigma0, big_sigma1, ch, maj};
-use std::num::wrapping_add_u32;
 use words::Record;
 
 // The hash value, or the working variables.
@@ -43,18 +42,21 @@ impl State {
     fn round(mut self, k: u32, w: u32) -> Self
         ensures { result ≡ round self k w }
     {
-        let x = wrapping_add_u32(self.h, big_sigma1(self.e));
-        let y = wrapping_add_u32(x, ch(self.e, self.f, self.g));
-        let t1 = wrapping_add_u32(wrapping_add_u32(y, k), w);
-        let t2 = wrapping_add_u32(big_sigma0(self.a), maj(self.a, self.b, self.c));
+        let t1 = self
+            .h
+            .wrapping_add(big_sigma1(self.e))
+            .wrapping_add(ch(self.e, self.f, self.g))
+            .wrapping_add(k)
+            .wrapping_add(w);
+        let t2 = big_sigma0(self.a).wrapping_add(maj(self.a, self.b, self.c));
         self.h = self.g;
         self.g = self.f;
         self.f = self.e;
-        self.e = wrapping_add_u32(self.d, t1);
+        self.e = self.d.wrapping_add(t1);
         self.d = self.c;
         self.c = self.b;
         self.b = self.a;
-        self.a = wrapping_add_u32(t1, t2);
+        self.a = t1.wrapping_add(t2);
         self
     }
 
@@ -62,12 +64,9 @@ impl State {
     fn rounds(mut self, w: &[u32; 64]) -> Self
         ensures { result ≡ rounds w.now self 64 }
     {
-        let k = constants();
-        let mut t: usize = 0;
-        while t < 64 {
-            self = self.round(k[t], w[t]);
-            self = self.round(k[t + 1], w[t + 1]);
-            t += 2;
+        for t in 0..32 {
+            self = self.round(K[2 * t], w[2 * t]);
+            self = self.round(K[2 * t + 1], w[2 * t + 1]);
         }
         self
     }
@@ -78,14 +77,14 @@ impl State {
     {
         let w = schedule(m);
         let v = self.rounds(&w);
-        self.a = wrapping_add_u32(v.a, self.a);
-        self.b = wrapping_add_u32(v.b, self.b);
-        self.c = wrapping_add_u32(v.c, self.c);
-        self.d = wrapping_add_u32(v.d, self.d);
-        self.e = wrapping_add_u32(v.e, self.e);
-        self.f = wrapping_add_u32(v.f, self.f);
-        self.g = wrapping_add_u32(v.g, self.g);
-        self.h = wrapping_add_u32(v.h, self.h);
+        self.a = v.a.wrapping_add(self.a);
+        self.b = v.b.wrapping_add(self.b);
+        self.c = v.c.wrapping_add(self.c);
+        self.d = v.d.wrapping_add(self.d);
+        self.e = v.e.wrapping_add(self.e);
+        self.f = v.f.wrapping_add(self.f);
+        self.g = v.g.wrapping_add(self.g);
+        self.h = v.h.wrapping_add(self.h);
         self
     }
 

@@ -69,16 +69,6 @@ unfolding word_at word_bytes
 word_back w rest h = let t : w / 16777216 < 256 = omega arith in omega (arith, mod-eq_of_lt t)
 
 -- ---- bytes put into a list
--- four stores put four bytes
-pub stores : (l : List ℕ) (k a b c d : ℕ) → k + 4 ≤ length l
-    → set (set (set (set l k a) (k + 1) b) (k + 2) c) (k + 3) d ≡ put_at k (a ∷ b ∷ c ∷ d ∷ []) l
-unfolding put_at
-stores l k a b c d h =
-    let p : k + 1 ≡ suc k = omega arith in
-    let q : k + 2 ≡ suc (suc k) = omega arith in
-    let r : k + 3 ≡ suc (suc (suc k)) = omega arith in
-    (λ j. set (set (set (set l k a) (p j) b) (q j) c) (r j) d) ∙ sets-eq (a ∷ b ∷ c ∷ d ∷ []) l k h
-
 -- a part that was lent comes back as the bytes bs
 pub put_back : (k : ℕ) (bs l : List ℕ) → put_mid k (length bs) l bs ≡ put_at k bs l
 unfolding put_at

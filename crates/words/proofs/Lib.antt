@@ -2,6 +2,7 @@
 pub mod Lists
 pub mod Tests
 pub mod NumberLaws
+pub mod Chains
 pub mod Checks
 pub mod Stages
 pub mod Alike

@@ -3,13 +3,14 @@
 use mathlib.Core.Path.{◌≡◌, refl, sym, ap, ◌∙◌}
 use mathlib.Core.Bool.{Bool, true, false, not, ◌&&◌}
 use mathlib.Core.List.{List, [], ◌∷◌}
-use Prim.Native.Nat.{ℕ, zero, suc, ◌+◌, ◌<◌}
+use Prim.Native.Nat.{ℕ, zero, suc, ◌+◌, ◌-◌, ◌<◌}
 use native.Mathlib.Nat.{le_of_suc-le-suc, not-suc-le-zero}
 use native.Mathlib.Omega.{arith}
 use borrow.Author.Tests.{eq-eqb, ne_eqb, eqb-true, eqb-false, not-true, not-false}
-use lib.ListN.{length, get_or, take, drop}
-use lib.Seq.{drop-length}
+use lib.ListN.{length, get_or, take, drop, length-drop}
+use lib.Seq.{drop-length, take_all}
 use lib.Dec.{eqb}
+use Rattle.std.specs.List.{list_any, list_all}
 use Rattle.words.specs.Choice.{pick}
 use Rattle.words.specs.Lists.{All, Distinct, map, all, absent, none_twice}
 use Rattle.words.proofs.Lists.{Pairwise-at, drop-next}
@@ -107,6 +108,11 @@ module _ {A : Type 0} (f : A → Bool) where
   pub all_end : (xs : List A) (i : ℕ) → i ≡ length xs → all f (drop i xs) ≡ true
   all_end xs i e = rw (e, drop-length)
 
+  -- std's test of every element
+  pub list_all_same : (xs : List A) → list_all f xs ≡ all f xs
+  list_all_same [] = refl
+  list_all_same (x ∷ xs) = ap (λ (t : Bool). f x && t) (list_all_same xs)
+
 -- ---- two numbers: equal or not
 pub equal_or_not : {P : Type 0} (x y : ℕ) → (x ≡ y → P) → ((x ≡ y → ⊥) → P) → P
 equal_or_not {P} x y f g = by-test (eqb x y) refl
@@ -145,15 +151,13 @@ module _ (x : ℕ) where
   true-absent [] h = refl
   true-absent (y ∷ l) h = absent-behind y l h.0 ∙ true-absent l h.1
 
-  module _ (l : List ℕ) (i : ℕ) (h : i < length l) where
-    pub absent-next : (x ≡ get_or l i 0 → ⊥) → absent x (drop i l) ≡ absent x (drop (i + 1) l)
-    absent-next n = rw (drop-next l i 0) (absent-behind (get_or l i 0) (drop (i + 1) l) n)
-
-    pub absent-stop : x ≡ get_or l i 0 → absent x (drop i l) ≡ false
-    absent-stop e = rw (drop-next l i 0) (absent-first (get_or l i 0) (drop (i + 1) l) e)
-
-  pub absent-end : (l : List ℕ) (i : ℕ) → i ≡ length l → absent x (drop i l) ≡ true
-  absent-end l i e = rw (e, drop-length)
+  -- as `contains` tests
+  pub any-absent : (l : List ℕ) → list_any (λ y. eqb y x) l ≡ not (absent x l)
+  any-absent [] = refl
+  any-absent (y ∷ l) =
+      equal_or_not x y
+      (λ e. simp (eq-eqb y x (sym e), absent-first y l e))
+      (λ n. simp (ne_eqb y x (λ e. n (sym e)), absent-behind y l n) (any-absent l))
 
 -- ---- no number twice
 pub distinct-true : (l : List ℕ) → none_twice l ≡ true → Distinct l
@@ -175,12 +179,16 @@ false-twice (x ∷ l) e =
 pub twice-false : (l : List ℕ) (i j : ℕ) → i < j → j < length l → get_or l i 0 ≡ get_or l j 0 → none_twice l ≡ false
 twice-false l i j h k e = refuted (none_twice l) (λ t. Pairwise-at (λ x y. x ≡ y → ⊥) l i j 0 h k (distinct-true l t) e)
 
-module _ (l : List ℕ) (i : ℕ) (h : i < length l) where
-  pub twice-next : absent (get_or l i 0) (drop (i + 1) l) ≡ true → none_twice (drop i l) ≡ none_twice (drop (i + 1) l)
-  twice-next e = rw (drop-next l i 0) (ap (λ (b : Bool). b && none_twice (drop (i + 1) l)) e)
+-- by whether the list contains the number at i behind it
+module _ (l : List ℕ) (i : ℕ) (h : i < length l) {r : Bool}
+    (e : r ≡ list_any (λ y. eqb y (get_or l i 0)) (take (length l - (i + 1)) (drop (i + 1) l))) where
+  behind : r ≡ not (absent (get_or l i 0) (drop (i + 1) l))
+  behind =
+      let s : take (length l - (i + 1)) (drop (i + 1) l) ≡ drop (i + 1) l = take_all _ _ (omega (arith, length-drop (i + 1) l)) in
+      rw s at e ∙ any-absent (get_or l i 0) (drop (i + 1) l)
 
-  pub twice-stop : absent (get_or l i 0) (drop (i + 1) l) ≡ false → none_twice (drop i l) ≡ false
-  twice-stop e = rw (drop-next l i 0) (ap (λ (b : Bool). b && none_twice (drop (i + 1) l)) e)
+  pub twice-next : r ≡ false → none_twice (drop i l) ≡ none_twice (drop (i + 1) l)
+  twice-next f = rw (drop-next l i 0) (ap (λ (b : Bool). b && none_twice (drop (i + 1) l)) (not-false _ (sym behind ∙ f)))
 
-pub twice-end : (l : List ℕ) (i : ℕ) → i ≡ length l → none_twice (drop i l) ≡ true
-twice-end l i e = rw (e, drop-length)
+  pub twice-stop : r ≡ true → none_twice (drop i l) ≡ false
+  twice-stop f = rw (drop-next l i 0) (ap (λ (b : Bool). b && none_twice (drop (i + 1) l)) (not-true _ (sym behind ∙ f)))

@@ -3,7 +3,7 @@
 
 ghost use Rattle.std.specs.Prelude.{◌≡◌, ◌+◌, ◌*◌, ◌≤◌, length, Ok, Err};
 ghost use Rattle.words.specs.Choice.{pick};
-ghost use Rattle.words.specs.Bytes.{word, word_at, word_bytes, put_at, record_in, record_at, record_bytes, agrees};
+ghost use Rattle.words.specs.Bytes.{word_at, word_bytes, put_at, record_in, record_at, record_bytes, agrees};
 
 mod distinct;
 mod refusal;
@@ -12,7 +12,7 @@ pub use distinct::none_twice;
 pub use refusal::Refusal;
 
 // Eight words: a record of a board, or a digest.
-#[derive(Clone, Copy)]
+#[derive(Clone, Copy, PartialEq, Eq)]
 pub struct Record {
     pub w0: u32,
     pub w1: u32,
@@ -24,6 +24,20 @@ pub struct Record {
     pub w7: u32,
 }
 
+impl Record {
+    // Eight zeros: what stands before a first record, or link.
+    pub const ZERO: Record = Record {
+        w0: 0,
+        w1: 0,
+        w2: 0,
+        w3: 0,
+        w4: 0,
+        w5: 0,
+        w6: 0,
+        w7: 0,
+    };
+}
+
 // Refused by `refusal` unless the test holds.
 pub fn passed_if(test: bool, refusal: Refusal) -> Result<(), Refusal>
     ensures { result ≡ pick test (Ok tt) (Err refusal) }
@@ -31,19 +45,12 @@ pub fn passed_if(test: bool, refusal: Refusal) -> Result<(), Refusal>
     if test { Ok(()) } else { Err(refusal) }
 }
 
-// The word of four bytes.
-fn of_bytes(a: u8, b: u8, c: u8, d: u8) -> u32
-    ensures { result ≡ word a b c d }
-{
-    (a as u32) * 16777216 + (b as u32) * 65536 + (c as u32) * 256 + (d as u32)
-}
-
 // The word whose first byte stands at `k`. Internal: the caller ensures that its four bytes are there.
 pub fn word_at(b: &[u8], k: usize) -> u32
     requires { k + 4 ≤ length b.now }
     ensures { result ≡ word_at b.now k }
 {
-    of_bytes(b[k], b[k + 1], b[k + 2], b[k + 3])
+    u32::from_be_bytes([b[k], b[k + 1], b[k + 2], b[k + 3]])
 }
 
 // Writes a word from `k` on. Internal: the caller ensures room for its four bytes.
@@ -51,10 +58,7 @@ pub fn put_word(b: &mut [u8], k: usize, w: u32)
     requires { k + 4 ≤ length b.old }
     ensures { b.new ≡ put_at k (word_bytes w) b.old }
 {
-    b[k] = (w / 16777216 % 256) as u8;
-    b[k + 1] = (w / 65536 % 256) as u8;
-    b[k + 2] = (w / 256 % 256) as u8;
-    b[k + 3] = (w % 256) as u8;
+    b[k..k + 4].copy_from_slice(&w.to_be_bytes());
 }
 
 // The record that 32 bytes hold. Internal: the caller hands over just these bytes.
@@ -80,9 +84,7 @@ pub fn record_at(b: &[u8], k: usize) -> Record
     requires { 32 * k + 32 ≤ length b.now }
     ensures { result ≡ record_at b.now k }
 {
-    let from = 32 * k;
-    let to = from + 32;
-    read_record(&b[from..to])
+    read_record(&b[32 * k..32 * k + 32])
 }
 
 // Writes a record over 32 bytes. Internal: the caller hands over just these bytes.
@@ -104,26 +106,5 @@ pub fn write_record(b: &mut [u8], r: Record)
 pub fn agrees(r: Record, s: Record) -> bool
     ensures { result ≡ agrees r s }
 {
-    if r.w0 != s.w0 {
-        return false;
-    }
-    if r.w1 != s.w1 {
-        return false;
-    }
-    if r.w2 != s.w2 {
-        return false;
-    }
-    if r.w3 != s.w3 {
-        return false;
-    }
-    if r.w4 != s.w4 {
-        return false;
-    }
-    if r.w5 != s.w5 {
-        return false;
-    }
-    if r.w6 != s.w6 {
-        return false;
-    }
-    r.w7 == s.w7
+    r == s
 }

@@ -1,20 +1,9 @@
 -- `field::inverse` meets its contract. The loop's invariant: a times t is x modulo m. x falls to 1, and then t is the inverse.
-use native.Mathlib.Nat.{mod-lt, div-le_self}
-use native.Mathlib.Omega.{arith}
 use Rattle.field.proofs.Loops.{descent-start, descent-next, descent-end}
 use Rattle.field.proofs.inverse.Goals as goal
 
 pub loop-x-init : goal.loop-x-init
 loop-x-init c = descent-start _ c.requires.0 _ c.requires.1 c.requires.2
-
-pub overflow_sub-m : goal.overflow_sub-m
-overflow_sub-m c = div-le_self _ _
-
-pub mul-t-requires : goal.mul-t-requires
-mul-t-requires c = omega arith
-
-pub loop-x-smaller : goal.loop-x-smaller
-loop-x-smaller c = mod-lt _ c.loop-x.invariant.x_pos
 
 pub loop-x-preserved : goal.loop-x-preserved
 loop-x-preserved c = rw c.mul-t.ensures (descent-next _ c.requires.0 _ _ _ c.loop-x-test.true c.loop-x.invariant)

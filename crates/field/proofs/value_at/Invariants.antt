@@ -1,12 +1,6 @@
--- `field::value_at` meets its contract. The loop's invariant: r is the value of the coefficients from i on.
-use mathlib.Core.Path.{◌≡◌}
-use Prim.Native.Nat.{◌≤◌, ◌<◌}
-use lib.ListN.{length, drop}
-use Rattle.field.specs.Polynomial.{value_at}
+-- `field::value_at` meets its contract. The loop's invariant: r is the value of the coefficients behind those that are left.
+use Rattle.field.proofs.Loops.{Horner}
 use Rattle.field.proofs.value_at.Given as goal
 
-abbrev pub invariant-loop-i : goal.invariant-loop-i
-invariant-loop-i l = (l.i ≤ length l.cs) × (l.r < l.m) × (l.r ≡ value_at l.m (drop l.i l.cs) l.x)
-
-abbrev pub decreases-loop-i : goal.decreases-loop-i
-decreases-loop-i l = l.i
+abbrev pub invariant-loop-c : goal.invariant-loop-c
+invariant-loop-c l = Horner l.m l.cs l.x l.c-iterator.iter.rest.now l.r

@@ -4,4 +4,4 @@ use Rattle.words.proofs.word_at.Goals as goal
 
 pub returns : goal.returns
 unfolding word_at
-returns c = c.of_bytes.ensures
+returns c = c.from_be_bytes.ensures

@@ -16,5 +16,5 @@ overflow_add-k-3 c = omega (arith, pad-length c.args.s.now)
 pub returns : goal.returns
 unfolding word_at
 returns c =
-    c.word_at.ensures
+    c.from_be_bytes.ensures
     ∙ (λ j. word (c.padded_byte.ensures j) (c.padded_byte-2.ensures j) (c.padded_byte-3.ensures j) (c.padded_byte-4.ensures j))

@@ -1,11 +1,8 @@
 -- `schedule` fills the array. Invariant: it holds the first t words of the definition, and 0 behind them.
-use Rattle.std.proofs.Common.{◌≡◌, ◌-◌, ◌≤◌}
+use Rattle.std.proofs.Common.{◌≡◌}
 use Rattle.words.specs.Lists.{filled}
 use Rattle.sha256.specs.Hash.{schedule}
 use Rattle.sha256.proofs.schedule.schedule.Given as goal
 
 abbrev pub invariant-loop-t : goal.invariant-loop-t
-invariant-loop-t l = (16 ≤ l.t) × (l.t ≤ 64) × (l.w ≡ filled 64 (schedule l.m l.t))
-
-abbrev pub decreases-loop-t : goal.decreases-loop-t
-decreases-loop-t l = 64 - l.t
+invariant-loop-t l = l.w ≡ filled 64 (schedule l.m l.t)
