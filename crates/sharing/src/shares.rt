@@ -9,7 +9,7 @@ ghost use Rattle.sharing.specs.Answer.{recovered, is_opening};
 use crate::Setting;
 use group::{Element, Exponent, Group};
 
-// The members of the largest round.
+// The members of the largest round, written out: without heap no range can be collected into a list that is lent.
 const MEMBERS: [u32; 31] = [
     1, 2, 3, 4, 5, 6, 7, 8, 9, 10, 11, 12, 13, 14, 15, 16, 17, 18, 19, 20, 21, 22, 23, 24, 25, 26,
     27, 28, 29, 30, 31,
