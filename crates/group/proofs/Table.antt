@@ -29,6 +29,10 @@ use Rattle.group.proofs.Powers.{halves-power}
 use Rattle.group.proofs.Elements.{element-true, true-element}
 use Rattle.words.specs.declared.refusal.Refusal.TheVariants.{UnknownGroup}
 
+-- a prime is no 0, so that the code may subtract 1
+pub prime_positive : (m : ℕ) → is_prime m ≡ true → 1 ≤ m
+prime_positive m e = omega (arith, ((prime-exactly m).0 e).above-one)
+
 -- ---- the built-in groups
 -- b is below p, not 1, and its power q is 1: right where q is below 2 to the power k
 abbrev generates : ℕ → ℕ → ℕ → ℕ → Bool

@@ -8,7 +8,6 @@ use native.Mathlib.Omega.{arith}
 use Rattle.words.specs.Lists.{up_from}
 use Rattle.words.specs.Checks.{◌unless◌, Outcome, outcome}
 use Rattle.words.specs.Bytes.{records_in, record_at}
-use Rattle.words.specs.declared.Record.{Record}
 use borrow.Author.Tests.{le-leb, lt-leb}
 use lib.ListN.{length, get_or}
 use Rattle.words.proofs.Lists.{map-length, map_at, up-length, up_at}
@@ -31,16 +30,9 @@ module _ (T : List ℕ) (n i : ℕ) where
     left : n - i ≡ suc (n - (i + 1))
     left = omega arith
 
-    form-turn : are_groups T i (n - i) ≡ is_group_record (i + 1) (record_at T i) && are_groups T (i + 1) (n - (i + 1))
-    form-turn =
+    pub forms_turn : are_groups T i (n - i) ≡ is_group_record (i + 1) (record_at T i) && are_groups T (i + 1) (n - (i + 1))
+    forms_turn =
         ap (are_groups T i) left ∙ ap (λ (j : ℕ). is_group_record j (record_at T i) && are_groups T j (n - (i + 1))) next
-
-    module _ {r : Record} (e : r ≡ record_at T i) where
-      pub form-next : is_group_record (i + 1) r ≡ true → are_groups T i (n - i) ≡ are_groups T (i + 1) (n - (i + 1))
-      form-next t = form-turn ∙ simp (← e, t)
-
-      pub form-stop : is_group_record (i + 1) r ≡ false → are_groups T i (n - i) ≡ false
-      form-stop t = form-turn ∙ simp (← e, t)
 
     -- ---- groups
     turn : outcome_from T n i
@@ -63,11 +55,8 @@ module _ (T : List ℕ) (n i : ℕ) where
     none : n - i ≡ 0
     none = omega arith
 
-    pub forms-passed : are_groups T i (n - i) ≡ true
-    forms-passed = ap (are_groups T i) none
-
-    pub groups-passed : outcome_from T n i ≡ Ok tt
-    groups-passed = ap (λ (m : ℕ). outcome (groups_checks (groups_from T i m)) (tt {0})) none
+    pub groups-passed : refusal_from T n i ≡ 0
+    groups-passed = ap (λ (m : ℕ). refusal (groups_checks (groups_from T i m))) none
 
 -- ---- the group of a number
 pub no_bytes : (T : List ℕ) → length T ≡ 0 → groups_of T ≡ built_in

@@ -8,7 +8,7 @@ ghost use Rattle.group.specs.Table.{are_groups, table_checks, looked_up, group_o
 use crate::membership::is_generator;
 use crate::{Element, Group};
 use field::is_prime;
-use words::{Record, Refusal, agrees, record_at};
+use words::{Record, Refusal, record_at};
 
 const GROUP: u32 = 7;
 
@@ -54,64 +54,47 @@ fn group_at(table: &[u8], i: usize) -> Group
 }
 
 // Whether a record is of the form of the group of that number.
+#[tactic(auto, unfolding(words::specs::Bytes::agrees))]
 fn is_group_record(number: u32, r: Record) -> bool
     ensures { result ≡ is_group_record number r }
 {
-    let laid = Record {
+    r == Record {
         w0: GROUP,
         w1: number,
-        w2: r.w2,
-        w3: r.w3,
-        w4: r.w4,
-        w5: r.w5,
         w6: 0,
         w7: 0,
-    };
-    agrees(r, laid)
+        ..r
+    }
 }
 
 // Whether each record is of the form of the group of its number, from 1. Internal: callers ensure that there are at most 8.
+#[tactic(auto, using(crate::proofs::Turns::forms_turn))]
 fn are_groups(table: &[u8]) -> bool
     requires { records_in table.now ≤ 8 }
     ensures { result ≡ are_groups table.now 0 (records_in table.now) }
 {
-    let mut i = 0;
-    while i < table.len() / 32 {
+    for i in 0..table.len() / 32 {
         if !is_group_record(i as u32 + 1, record_at(table, i)) {
             return false;
         }
-        i += 1;
     }
     true
 }
 
 // Whether q is an odd prime that divides p - 1, and p a prime.
+#[tactic(auto, using(crate::proofs::Table::prime_positive), unfolding(crate::specs::Table::has_primes))]
 fn has_primes(gr: Group) -> bool
     ensures { result ≡ has_primes gr }
 {
-    if gr.q % 2 == 0 {
-        return false;
-    }
-    if !is_prime(gr.q) {
-        return false;
-    }
-    if !is_prime(gr.p) {
-        return false;
-    }
-    (gr.p - 1) % gr.q == 0
+    gr.q % 2 == 1 && is_prime(gr.q) && is_prime(gr.p) && (gr.p - 1) % gr.q == 0
 }
 
 // Whether g and h are distinct elements other than 1.
+#[tactic(auto, unfolding(crate::specs::Table::has_generators))]
 fn has_generators(gr: Group) -> bool
     ensures { result ≡ has_generators gr }
 {
-    if !is_generator(gr, gr.g) {
-        return false;
-    }
-    if !is_generator(gr, gr.h) {
-        return false;
-    }
-    gr.g.0 != gr.h.0
+    is_generator(gr, gr.g) && is_generator(gr, gr.h) && gr.g != gr.h
 }
 
 // What the groups are refused by, one after the other: 20 p or q; 21 g or h.

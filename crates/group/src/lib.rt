@@ -17,7 +17,7 @@ use words::Refusal;
 pub struct Exponent(pub u32);
 
 // A residue modulo p.
-#[derive(Clone, Copy)]
+#[derive(Clone, Copy, PartialEq, Eq)]
 pub struct Element(pub u32);
 
 // The modulus p, the order q, and the two generators g and h.

@@ -7,21 +7,15 @@ use crate::arithmetic::raise;
 use crate::{Element, Exponent, Group};
 
 // Whether v is in 1 to p - 1 and its power q is 1.
+#[tactic(auto, unfolding(crate::specs::Element::is_element))]
 pub fn is_element(gr: Group, v: Element) -> bool
     ensures { result ≡ is_element gr v.0 }
 {
-    let x = v.0;
-    let p = gr.p;
-    if x < 1 {
-        return false;
-    }
-    if x >= p {
-        return false;
-    }
-    raise(p, v, Exponent(gr.q)) == 1
+    1 <= v.0 && v.0 < gr.p && raise(gr.p, v, Exponent(gr.q)) == 1
 }
 
 // Whether b is an element other than 1.
+#[tactic(auto, unfolding(crate::specs::Element::is_generator))]
 pub fn is_generator(gr: Group, b: Element) -> bool
     ensures { result ≡ is_generator gr b.0 }
 {
@@ -29,6 +23,7 @@ pub fn is_generator(gr: Group, b: Element) -> bool
 }
 
 // Whether e is below q.
+#[tactic(auto, unfolding(crate::specs::Element::is_exponent))]
 pub fn is_exponent(gr: Group, e: Exponent) -> bool
     ensures { result ≡ is_exponent gr e.0 }
 {
@@ -39,26 +34,12 @@ pub fn is_exponent(gr: Group, e: Exponent) -> bool
 pub fn all_elements(gr: Group, vs: &[u32]) -> bool
     ensures { result ≡ all (is_element gr) vs.now }
 {
-    let mut i = 0;
-    while i < vs.len() {
-        if !is_element(gr, Element(vs[i])) {
-            return false;
-        }
-        i += 1;
-    }
-    true
+    vs.iter().all(|&v| is_element(gr, Element(v)))
 }
 
 // Whether each number is an exponent below q.
 pub fn all_exponents(gr: Group, es: &[u32]) -> bool
     ensures { result ≡ all (is_exponent gr) es.now }
 {
-    let mut i = 0;
-    while i < es.len() {
-        if !is_exponent(gr, Exponent(es[i])) {
-            return false;
-        }
-        i += 1;
-    }
-    true
+    es.iter().all(|&e| is_exponent(gr, Exponent(e)))
 }

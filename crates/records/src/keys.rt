@@ -8,6 +8,7 @@ use group::{Element, Exponent, Group, is_generator};
 use words::{Refusal, none_twice};
 
 // A key: an element that is not 1.
+#[tactic(auto, unfolding(crate::specs::Keys::is_key))]
 pub fn is_key(gr: Group, y: Element) -> bool
     ensures { result ≡ is_key gr y.0 }
 {
@@ -17,14 +18,7 @@ pub fn is_key(gr: Group, y: Element) -> bool
 pub fn all_keys(gr: Group, ys: &[u32]) -> bool
     ensures { result ≡ all (is_key gr) ys.now }
 {
-    let mut i = 0;
-    while i < ys.len() {
-        if !is_key(gr, Element(ys[i])) {
-            return false;
-        }
-        i += 1;
-    }
-    true
+    ys.iter().all(|&y| is_key(gr, Element(y)))
 }
 
 // The number by which the members' keys are refused: 6 a number that is no key; 22 two equal keys.
@@ -41,6 +35,7 @@ pub fn check_keys(gr: Group, ys: &[u32]) -> Result<(), Refusal>
 }
 
 // A secret key: 1 to q - 1.
+#[tactic(auto, unfolding(crate::specs::Keys::is_secret_key))]
 pub fn is_secret_key(gr: Group, x: Exponent) -> bool
     ensures { result ≡ is_secret_key gr x.0 }
 {

@@ -1,10 +1,12 @@
 // One layout for each kind of record, and the tests of their form.
+#![tactic(auto, unfolding(words::specs::Bytes::agrees))]
+
 ghost use Rattle.std.specs.Prelude.{◌≡◌};
 ghost use Rattle.records.specs.Layout.{key_layout, line_layout, opening_layout, share_layout, set_layout};
 ghost use Rattle.records.specs.Layout.{is_key_record, is_line_record, is_opening_record, is_share_record, is_set_record, is_of_round};
 
 use group::{Element, Exponent};
-use words::{Record, agrees};
+use words::Record;
 
 pub const KEY: u32 = 1;
 
@@ -118,53 +120,47 @@ pub fn set_record(number: u32, n: u32, t: u32, round: u32, first: u32) -> Record
 pub fn is_key_record(r: Record) -> bool
     ensures { result ≡ is_key_record r }
 {
-    agrees(r, key_record(r.w2, Element(r.w3), r.w7))
+    r == key_record(r.w2, Element(r.w3), r.w7)
 }
 
 pub fn is_line_record(r: Record) -> bool
     ensures { result ≡ is_line_record r }
 {
-    agrees(
-        r,
-        line_record(
-            r.w1,
-            r.w2,
-            Element(r.w3),
-            Element(r.w4),
-            Exponent(r.w5),
-            Exponent(r.w6),
-            r.w7,
-        ),
+    r == line_record(
+        r.w1,
+        r.w2,
+        Element(r.w3),
+        Element(r.w4),
+        Exponent(r.w5),
+        Exponent(r.w6),
+        r.w7,
     )
 }
 
 pub fn is_opening_record(r: Record) -> bool
     ensures { result ≡ is_opening_record r }
 {
-    agrees(r, opening_record(r.w1, Exponent(r.w3), r.w7))
+    r == opening_record(r.w1, Exponent(r.w3), r.w7)
 }
 
 pub fn is_share_record(kind: u32, r: Record) -> bool
     ensures { result ≡ is_share_record kind r }
 {
-    agrees(
-        r,
-        share_record(
-            kind,
-            r.w1,
-            r.w2,
-            Element(r.w3),
-            Exponent(r.w4),
-            Exponent(r.w5),
-            r.w7,
-        ),
+    r == share_record(
+        kind,
+        r.w1,
+        r.w2,
+        Element(r.w3),
+        Exponent(r.w4),
+        Exponent(r.w5),
+        r.w7,
     )
 }
 
 pub fn is_set_record(r: Record) -> bool
     ensures { result ≡ is_set_record r }
 {
-    agrees(r, set_record(r.w1, r.w2, r.w3, r.w4, r.w5))
+    r == set_record(r.w1, r.w2, r.w3, r.w4, r.w5)
 }
 
 // Whether a record is of that round, which is tested behind its form.

@@ -7,32 +7,19 @@ use group::{group_in, check_table};
 use words::Refusal;
 
 // n from 1 to 31 and below q, t from 1 to n
+#[tactic(auto, unfolding(crate::specs::Setting::in_range))]
 fn in_range(q: u32, n: u32, t: u32) -> bool
     ensures { result ≡ in_range q n t }
 {
-    if n < 1 {
-        return false;
-    }
-    if n > 31 {
-        return false;
-    }
-    if n >= q {
-        return false;
-    }
-    if t < 1 {
-        return false;
-    }
-    t <= n
+    1 <= n && n <= 31 && n < q && 1 <= t && t <= n
 }
 
 // Whether exponents come from the whole digest: the first round under this rule is not 0, and the round is not below it.
+#[tactic(auto, unfolding(crate::specs::Setting::takes_whole))]
 fn takes_whole(first: u32, round: u32) -> bool
     ensures { result ≡ takes_whole first round }
 {
-    if first == 0 {
-        return false;
-    }
-    first <= round
+    first != 0 && first <= round
 }
 
 // Judges a round's figures, and answers the setting. Refused: 1 no group of that number; 2 n or t outside its range.

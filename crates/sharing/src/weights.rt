@@ -9,19 +9,18 @@ use group::{Element, Exponent};
 
 // The product of i - j over the other members j of 1 to n.
 // Internal: callers ensure that the setting is proper and that i is below q.
+#[tactic(auto, using(crate::proofs::Loops::members_end, crate::proofs::Loops::members_back), unfolding(crate::specs::Weights::gaps_at))]
 fn gaps(s: Setting, i: u32) -> Exponent
     requires { (ProperSetting s) × (i < s.group.q) }
     ensures { result.0 ≡ gaps_at s i }
 {
     let mut product = Exponent(1);
-    let mut j = s.n;
-    while j > 0 {
+    for j in (1..=s.n).rev() {
         if i != j {
             product = Exponent(i)
                 .minus(s.group, Exponent(j))
                 .times(s.group, product);
         }
-        j -= 1;
     }
     product
 }
@@ -38,17 +37,16 @@ fn weight(s: Setting, ds: &[u32], i: u32) -> Exponent
 
 // The product of the commitments to their weights.
 // Internal: callers ensure that the setting is proper and that there are n commitments.
+#[tactic(auto, using(crate::proofs::Loops::powers_end, crate::proofs::Loops::weights_back), unfolding(crate::specs::Answer::degree_product))]
 fn degree_product(s: Setting, vs: &[u32], ds: &[u32]) -> Element
     requires { (ProperSetting s) × (length vs.now ≡ s.n) }
     ensures { result.0 ≡ degree_product s vs.now ds.now }
 {
     let mut product = Element(1);
-    let mut i = s.n;
-    while i > 0 {
+    for i in (1..=s.n).rev() {
+        let v = Element(vs[i as usize - 1]);
         let exponent = weight(s, ds, i);
-        i -= 1;
-        let v = vs[i as usize];
-        product = Element(v).power(s.group, exponent).times(s.group, product);
+        product = v.power(s.group, exponent).times(s.group, product);
     }
     product
 }

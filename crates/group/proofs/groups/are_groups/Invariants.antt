@@ -7,6 +7,3 @@ use Rattle.group.proofs.groups.are_groups.Given as goal
 
 abbrev pub invariant-loop-i : goal.invariant-loop-i
 invariant-loop-i l = are_groups l.table 0 (records_in l.table) ≡ are_groups l.table l.i (records_in l.table - l.i)
-
-abbrev pub decreases-loop-i : goal.decreases-loop-i
-decreases-loop-i l = records_in l.table - l.i

@@ -17,15 +17,6 @@ use Rattle.sharing.proofs.shares.recovered_from_first.Goals as goal
 first-members : {S : Setting} → ProperSetting S → take S.t (members 31) ≡ members S.t
 first-members {S} Y = up-take 1 S.t 31 (omega (arith, Y.t-most, Y.n-most))
 
-pub slice_bounds-members-end : goal.slice_bounds-members-end
-slice_bounds-members-end c = let Y = c.requires.0 in omega (arith, Y.t-most, Y.n-most)
-
-pub slice_bounds-recovered_from-end : goal.slice_bounds-recovered_from-end
-slice_bounds-recovered_from-end c = sym (ap length (first-members c.requires.0) ∙ up-length 1 c.args.s.t)
-
-pub slice_bounds-recovered_from-end-2 : goal.slice_bounds-recovered_from-end-2
-slice_bounds-recovered_from-end-2 c = sym (length-take-le _ _ (omega (arith, c.requires.0.t-most, c.requires.1)))
-
 pub recovered_from-requires : goal.recovered_from-requires
 recovered_from-requires c =
     let s = c.args.s in

@@ -1,6 +1,5 @@
 -- `weights::gaps` meets its contract. The loop's invariant: the product is that over the other members above j.
 use mathlib.Core.Path.{◌≡◌}
-use Prim.Native.Nat.{◌≤◌}
 use lib.ListN.{drop}
 use Rattle.field.specs.Residue.{sub}
 use Rattle.sharing.specs.Setting.{members}
@@ -8,7 +7,4 @@ use Rattle.sharing.specs.Weights.{product_over}
 use Rattle.sharing.proofs.weights.gaps.Given as goal
 
 abbrev pub invariant-loop-j : goal.invariant-loop-j
-invariant-loop-j l = (l.j ≤ l.s.n) × (l.product.0 ≡ product_over l.s.group.q (sub l.s.group.q l.i) l.i (drop l.j (members l.s.n)))
-
-abbrev pub decreases-loop-j : goal.decreases-loop-j
-decreases-loop-j l = l.j
+invariant-loop-j l = l.product.0 ≡ product_over l.s.group.q (sub l.s.group.q l.i) l.i (drop l.j (members l.s.n))
