@@ -1,6 +1,7 @@
 -- Laws that every other crate cites: on tests and lists, on ordered checks and their stages, on words and records of bytes.
 pub mod Lists
 pub mod Tests
+pub mod Chains
 pub mod Checks
 pub mod Stages
 pub mod Alike

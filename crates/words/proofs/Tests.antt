@@ -10,6 +10,7 @@ use borrow.Author.Tests.{eq-eqb, ne_eqb, eqb-true, eqb-false, not-true, not-fals
 use lib.ListN.{length, get_or, take, drop}
 use lib.Seq.{drop-length}
 use lib.Dec.{eqb}
+use Rattle.std.specs.List.{list_all}
 use Rattle.words.specs.Choice.{pick}
 use Rattle.words.specs.Lists.{All, Distinct, map, all, absent, none_twice}
 use Rattle.words.proofs.Lists.{Pairwise-at, drop-next}
@@ -106,6 +107,11 @@ module _ {A : Type 0} (f : A → Bool) where
 
   pub all_end : (xs : List A) (i : ℕ) → i ≡ length xs → all f (drop i xs) ≡ true
   all_end xs i e = rw (e, drop-length)
+
+  -- std's test of every element
+  pub list_all_same : (xs : List A) → list_all f xs ≡ all f xs
+  list_all_same [] = refl
+  list_all_same (x ∷ xs) = ap (λ (t : Bool). f x && t) (list_all_same xs)
 
 -- ---- two numbers: equal or not
 pub equal_or_not : {P : Type 0} (x y : ℕ) → (x ≡ y → P) → ((x ≡ y → ⊥) → P) → P
