@@ -22,7 +22,8 @@ fn with_rest(q: u32, r: u32, d: Record) -> u32
     requires { 0 < q }
     ensures { result ≡ remainder_behind q r (last_words d) }
 {
-    [d.w2, d.w3, d.w4, d.w5, d.w6, d.w7].iter().fold(r, |r, &w| remainder(q, r, w))
+    let words = [d.w2, d.w3, d.w4, d.w5, d.w6, d.w7];
+    words.iter().fold(r, |r, &w| remainder(q, r, w))
 }
 
 // The exponent that the digest d gives. Internal: callers ensure a proper setting.
