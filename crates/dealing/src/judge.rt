@@ -106,19 +106,15 @@ fn judge_figures(s: Setting, d: u32, ys: &[u32], figures: Columns) -> CheckAnswe
     requires { (ProperSetting s) × (d ≤ s.n) × (length ys.now ≡ s.n) }
     ensures { check_outcome_of result ≡ outcome (column_checks s d ys.now figures) tt }
 {
-    let vs = figures.vs;
-    let encrypted = figures.encrypted;
-    let rs = figures.rs;
-    let cs = figures.cs;
-    let k = range_refusal(s, vs, encrypted, rs, cs);
+    let k = range_refusal(s, figures.vs, figures.encrypted, figures.rs, figures.cs);
     if k != 0 {
         return CheckAnswer::Refused(k);
     }
-    if !own_check_passes(s, d, vs, encrypted) {
+    if !own_check_passes(s, d, figures.vs, figures.encrypted) {
         return CheckAnswer::Refused(refusal::DEGREE_FAILS);
     }
     let c = recomputed(s, d, ys, figures);
-    passed_if(all_equal(c, cs, s.n as usize), refusal::PROOF_FAILS)
+    passed_if(all_equal(c, figures.cs, s.n as usize), refusal::PROOF_FAILS)
 }
 
 // Judges the lines of the dealer d by their figures, which are read once and handed back: 6 for a v or Y, 7, 9 and 10.
