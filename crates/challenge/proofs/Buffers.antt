@@ -7,14 +7,15 @@ use Prim.Native.Nat.{ℕ, ◌+◌, ◌*◌, ◌≤◌, ◌<◌}
 use native.Mathlib.Nat.{mul-zero, mul-suc}
 use native.Mathlib.Omega.{arith}
 use borrow.Author.Tests.{eq-eqb, ne_eqb}
-use lib.ListN.{length, take, set, length-append, length-set}
+use borrow.Rule.Slice.PartMut.{put_mid}
+use lib.ListN.{length, take, set, length-append}
 use lib.Dec.{eqb}
-use lib.Seq.{sets-eq, set_at, take-set-lt}
+use lib.Seq.{set_at, take-set-lt}
 use Rattle.words.specs.Choice.{pick}
 use Rattle.words.specs.Bytes.{word_bytes, words_bytes, put_at}
 use Rattle.words.proofs.Lists.{up-length, up-last}
 use Rattle.words.proofs.Tests.{pick_true, pick-false}
-use Rattle.words.proofs.Bytes.{word-length, words-length, put-length, put-take, put-none, put_byte, put-put}
+use Rattle.words.proofs.Bytes.{word-length, words-length, put-length, put-take, put-none, put_byte, put_back, put-put}
 use Rattle.sharing.specs.Setting.{members}
 use Rattle.sharing.specs.declared.Setting.{Setting}
 use Rattle.challenge.specs.Message.{coefficient_tag, round_bytes, head_bytes, message, bytes_over, coefficient_message}
@@ -106,36 +107,18 @@ module _ (tag : ℕ) (S : Setting) (d : ℕ) where
   unfolding head_bytes
   head-length = omega (arith, length-append (round_bytes S.round) (d ∷ []))
 
-  four-stores : (l : List ℕ) → 4 ≤ length l
-      → set (set (set (set l 0 tag) 1 S.number) 2 S.n) 3 S.t ≡ put_at 0 (tag ∷ S.number ∷ S.n ∷ S.t ∷ []) l
-  unfolding put_at
-  four-stores l h = sets-eq (tag ∷ S.number ∷ S.n ∷ S.t ∷ []) l 0 h
-
-  -- four stores in a buffer l, the round's number put behind them up to a, and a store at a
-  module _ (l : List ℕ) (room : 16 ≤ length l) {a : ℕ} {r : List ℕ} (e : a ≡ 4 + length (round_bytes S.round))
-      (p : r ≡ put_at 4 (round_bytes S.round) (set (set (set (set l 0 tag) 1 S.number) 2 S.n) 3 S.t)) where
-    stored : r ≡ put_at 0 ((tag ∷ S.number ∷ S.n ∷ S.t ∷ []) ++ round_bytes S.round) l
-    stored =
-        let bs = round_bytes S.round in
-        p ∙ ap (put_at 4 bs) (four-stores l (omega arith)) ∙ put-put 0 4 (tag ∷ S.number ∷ S.n ∷ S.t ∷ []) bs l refl (omega arith)
-
-    stored-length : length r ≡ length l
-    stored-length =
-        let bs = round_bytes S.round in
-        ap length stored ∙ put-length 0 ((tag ∷ S.number ∷ S.n ∷ S.t ∷ []) ++ bs) l (omega (arith, round-length S.round))
-
-    pub head-room : a < length r
-    head-room = omega (arith, round-length S.round, stored-length)
-
-    pub head-kept : length (set r a d) ≡ length l
-    head-kept = length-set r a d ∙ stored-length
-
-    pub head-put : set r a d ≡ put_at 0 (head_bytes tag S d) l
-    unfolding head_bytes
-    head-put =
-        let bs = (tag ∷ S.number ∷ S.n ∷ S.t ∷ []) ++ round_bytes S.round in
-        put_byte a d r head-room ∙ ap (put_at a (d ∷ [])) stored
-        ∙ put-put 0 a bs (d ∷ []) l (omega arith) (omega (arith, round-length S.round))
+  -- four bytes over the front of a buffer l, the round's number put behind them up to a, and a store at a
+  pub head-put : (l : List ℕ) {a : ℕ} {f r : List ℕ} → 16 ≤ length l → f ≡ tag ∷ S.number ∷ S.n ∷ S.t ∷ []
+      → a ≡ 4 + length (round_bytes S.round) → r ≡ put_at 4 (round_bytes S.round) (put_mid 0 4 l f) → a < length r
+      → set r a d ≡ put_at 0 (head_bytes tag S d) l
+  unfolding head_bytes
+  head-put l {a} {f} {r} room four e p h =
+      let bs = round_bytes S.round in
+      let ts = tag ∷ S.number ∷ S.n ∷ S.t ∷ [] in
+      let front = ap (put_mid 0 4 l) four ∙ put_back 0 ts l in
+      put_byte a d r h
+      ∙ ap (put_at a (d ∷ [])) (p ∙ ap (put_at 4 bs) front ∙ put-put 0 4 ts bs l refl (omega arith))
+      ∙ put-put 0 a (ts ++ bs) (d ∷ []) l (omega arith) (omega (arith, round-length S.round))
 
   -- the bytes bs that are put behind the head in a buffer l
   put-behind : (bs l : List ℕ) {a : ℕ} {h m : List ℕ} → a ≡ length (head_bytes tag S d) → h ≡ put_at 0 (head_bytes tag S d) l

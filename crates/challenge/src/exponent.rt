@@ -22,12 +22,8 @@ fn with_rest(q: u32, r: u32, d: Record) -> u32
     requires { 0 < q }
     ensures { result ≡ remainder_behind q r (last_words d) }
 {
-    let r2 = remainder(q, r, d.w2);
-    let r3 = remainder(q, r2, d.w3);
-    let r4 = remainder(q, r3, d.w4);
-    let r5 = remainder(q, r4, d.w5);
-    let r6 = remainder(q, r5, d.w6);
-    remainder(q, r6, d.w7)
+    let words = [d.w2, d.w3, d.w4, d.w5, d.w6, d.w7];
+    words.iter().fold(r, |r, &w| remainder(q, r, w))
 }
 
 // The exponent that the digest d gives. Internal: callers ensure a proper setting.

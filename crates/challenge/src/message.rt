@@ -51,10 +51,7 @@ fn head(m: &mut [u8], tag: u8, s: Setting, d: u32) -> usize
     requires { (ProperSetting s) × (d ≤ s.n) × (16 ≤ length m.old) }
     ensures { (result ≤ 16) × (result ≡ length (head_bytes tag s d)) × (m.new ≡ put_at 0 (head_bytes tag s d) m.old) }
 {
-    m[0] = tag;
-    m[1] = s.number as u8;
-    m[2] = s.n as u8;
-    m[3] = s.t as u8;
+    m[..4].copy_from_slice(&[tag, s.number as u8, s.n as u8, s.t as u8]);
     let at = put_round(m, 4, s.round);
     m[at] = d as u8;
     at + 1
@@ -94,10 +91,8 @@ pub fn dealing_challenge(
     let mut m = [0u8; 512];
     let at = head(&mut m, DEALING_TAG, s, d);
     let n = s.n as usize;
-    let mut i = 0;
-    while i < n {
+    for i in 0..n {
         put_four(&mut m, at + 16 * i, vs[i], encrypted[i], a1s[i], a2s[i]);
-        i += 1;
     }
     challenge(s, &m, at + 16 * n)
 }
@@ -134,10 +129,8 @@ fn coefficient_message(
     m[at] = 0;
     let from = at + 1;
     let n = s.n as usize;
-    let mut i = 0;
-    while i < n {
+    for i in 0..n {
         put_two(m, from + 8 * i, vs[i], encrypted[i]);
-        i += 1;
     }
     at
 }
@@ -153,11 +146,9 @@ pub fn check_polynomial(s: Setting, d: u32, vs: &[u32; 31], encrypted: &[u32; 31
     let end = at + 1 + 8 * s.n as usize;
     let mut ds = [0u32; 31];
     let count = (s.n - s.t) as usize;
-    let mut k = 0;
-    while k < count {
+    for k in 0..count {
         m[at] = k as u8;
         ds[k] = challenge(s, &m, end).0;
-        k += 1;
     }
     ds
 }

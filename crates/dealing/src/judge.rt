@@ -59,17 +59,13 @@ fn recomputed(s: Setting, d: u32, ys: &[u32], figures: Columns) -> Exponent
 {
     let mut a1s = [0u32; 31];
     let mut a2s = [0u32; 31];
-    let mut i = 0;
-    while i < ys.len() {
+    for i in 0..ys.len() {
         let r = Exponent(figures.rs[i]);
         let c = Exponent(figures.cs[i]);
         a1s[i] = announced(s.group, s.group.g, Element(figures.vs[i]), c, r).0;
         a2s[i] = announced(s.group, Element(ys[i]), Element(figures.encrypted[i]), c, r).0;
-        i += 1;
     }
-    let vs = figures.vs;
-    let encrypted = figures.encrypted;
-    dealing_challenge(s, d, &vs, &encrypted, &a1s, &a2s)
+    dealing_challenge(s, d, &figures.vs, &figures.encrypted, &a1s, &a2s)
 }
 
 // Whether c is the challenge of each of n members, in cs. Internal: callers ensure that n is at most 31.
@@ -77,14 +73,7 @@ fn all_equal(c: Exponent, cs: [u32; 31], n: usize) -> bool
     requires { n ≤ 31 }
     ensures { result ≡ all (λ i. eqb (entry cs i) c.0) (members n) }
 {
-    let mut i = 0;
-    while i < n {
-        if cs[i] != c.0 {
-            return false;
-        }
-        i += 1;
-    }
-    true
+    cs[..n].iter().all(|&x| x == c.0)
 }
 
 // The first number refused of 6 for a v or Y, and 7. Internal: callers ensure a proper setting.

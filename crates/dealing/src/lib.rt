@@ -1,6 +1,7 @@
 // A dealing: the judge and the writer.
 #![tactic(auto)]
 
+mod filling;
 mod judge;
 mod writer;
 

@@ -8,6 +8,7 @@ ghost use Rattle.sharing.specs.Setting.{ProperSetting, members};
 ghost use Rattle.equality.specs.Equality.{response};
 ghost use Rattle.dealing.specs.Dealing.{written_dealing, write_dealing_checks, write_dealing_in, write_dealing_outcome, lent_dealing_in, lent_dealing};
 
+use crate::filling::for_members;
 use challenge::dealing_challenge;
 use equality::response;
 use group::{Element, Exponent, Group, all_exponents};
@@ -22,43 +23,28 @@ fn values(gr: Group, f: &[u32], n: usize) -> [u32; 31]
     requires { (0 < gr.q) × (n ≤ 31) }
     ensures { result ≡ filled 31 (map (value_at gr.q f.now) (members n)) }
 {
-    let mut xs = [0u32; 31];
-    let mut i = 0;
-    while i < n {
-        xs[i] = field::value_at(gr.q, f, i as u32 + 1);
-        i += 1;
-    }
-    xs
+    for_members(n, |i| field::value_at(gr.q, f, i as u32 + 1))
 }
 
 // Each member's base to his exponent, and 0 behind these powers.
 // Internal: callers ensure that p is above 1, n bases and n exponents, and that n is at most 31.
+#[tactic(auto, using(words::proofs::Lists::entry_at))]
 fn raised(gr: Group, bases: &[u32], xs: &[u32], n: usize) -> [u32; 31]
     requires { (1 < gr.p) × (n ≤ 31) × (n ≤ length bases.now) × (n ≤ length xs.now) }
     ensures { result ≡ filled 31 (map (λ i. pow gr.p (entry bases.now i) (entry xs.now i)) (members n)) }
 {
-    let mut rs = [0u32; 31];
-    let mut i = 0;
-    while i < n {
-        rs[i] = Element(bases[i]).power(gr, Exponent(xs[i])).0;
-        i += 1;
-    }
-    rs
+    for_members(n, |i| Element(bases[i]).power(gr, Exponent(xs[i])).0)
 }
 
 // The response of each member to the challenge c, from the polynomial's value x and the nonce w of each, and 0 behind them.
 // Internal: callers ensure nonces below q, at most 31.
+#[tactic(auto, using(words::proofs::Lists::entry_at))]
 fn responses(gr: Group, xs: &[u32; 31], ws: &[u32], c: Exponent) -> [u32; 31]
     requires { (length ws.now ≤ 31) × (Below gr.q ws.now) }
     ensures { result ≡ filled 31 (map (λ i. response gr (entry ws.now i) c.0 (entry xs.now i)) (members (length ws.now))) }
 {
-    let mut rs = [0u32; 31];
-    let mut i = 0;
-    while i < ws.len() {
-        rs[i] = response(gr, Exponent(ws[i]), c, Exponent(xs[i])).0;
-        i += 1;
-    }
-    rs
+    let n = ws.len();
+    for_members(n, |i| response(gr, Exponent(ws[i]), c, Exponent(xs[i])).0)
 }
 
 // Writes the lines of a dealing: commitments and encrypted shares, and the announcements of the nonces for the challenge.
@@ -85,16 +71,7 @@ fn sizes_fit(n: u32, t: u32, ys: &[u32], f: &[u32], ws: &[u32], room: usize) -> 
     ensures { result ≡ eqb (length ys.now) n && (eqb (length f.now) t && (eqb (length ws.now) n && eqb room (32 * n))) }
 {
     let k = n as usize;
-    if ys.len() != k {
-        return false;
-    }
-    if f.len() != t as usize {
-        return false;
-    }
-    if ws.len() != k {
-        return false;
-    }
-    room == 32 * k
+    ys.len() == k && f.len() == t as usize && ws.len() == k && room == 32 * k
 }
 
 // The first number refused of 8, 3, 6, 22 and 7,.

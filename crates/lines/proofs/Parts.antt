@@ -1,16 +1,20 @@
 -- A member's record as a part of a dealing's bytes. And records written one after the other into a buffer: what is written, with the
 -- records that are left, is all of them.
-use mathlib.Core.Path.{◌≡◌, sym, ap, ◌∙◌}
+use mathlib.Core.Path.{◌≡◌, refl, sym, ap, ◌∙◌}
+use mathlib.Core.Bool.{Bool, ◌&&◌}
 use mathlib.Core.List.{List, ◌++◌, append_assoc, append-nil}
-use Prim.Native.Nat.{ℕ, ◌+◌, ◌-◌, ◌*◌, ◌≤◌, ◌<◌}
+use Prim.Native.Nat.{ℕ, zero, suc, ◌+◌, ◌-◌, ◌*◌, ◌≤◌, ◌<◌}
 use native.Mathlib.Omega.{arith}
 use borrow.Rule.Slice.PartMut.{put_mid}
 use lib.ListN.{length, get_or, take, drop}
 use lib.Seq.{take_all, drop-length}
+use Rattle.std.specs.List.{range_with_len}
+use Rattle.words.specs.Lists.{all, up_from}
 use Rattle.words.specs.Bytes.{put_at, record_bytes, record_in, record_at}
 use Rattle.words.specs.declared.Record.{Record}
 use Rattle.words.proofs.Lists.{drop-next}
 use Rattle.words.proofs.Bytes.{record-length, put_back, put-take}
+use Rattle.sharing.specs.Setting.{members}
 use Rattle.records.specs.Layout.{member_record, records_bytes}
 use Rattle.records.proofs.Posted.{record_of}
 
@@ -49,3 +53,11 @@ module _ (f : ℕ → Record) (is : List ℕ) (k : ℕ) (out : List ℕ) where
       ∙ ap (λ (t : List ℕ). take (32 * length is) out ++ records_bytes f t) (drop-length is)
       ∙ append-nil (take (32 * length is) out)
       ∙ take_all (32 * length is) out (omega arith)
+
+-- a test of the members 1 to n, by their places from 0 on
+pub by-place : (f : ℕ → Bool) (n : ℕ) → all (λ i. f (i + 1)) (range_with_len 0 n) ≡ all f (members n)
+by-place f n = from 0 1 n refl
+  where
+    from : (i j n : ℕ) → i + 1 ≡ j → all (λ k. f (k + 1)) (range_with_len i n) ≡ all f (up_from j n)
+    from i j zero e = refl
+    from i j (suc n) e = λ k. f (e k) && from (i + 1) (suc j) n (omega arith) k

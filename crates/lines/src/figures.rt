@@ -7,7 +7,7 @@ ghost use Rattle.lines.specs.Columns.{columns_of, line_from};
 use crate::Columns;
 use group::{Element, Exponent};
 use records::line_record;
-use words::{read_record, write_record};
+use words::{record_at, write_record};
 
 // The figures of n lines. Internal: callers ensure that the bytes are n records, at most 31.
 pub fn read_lines(lines: &[u8], n: usize) -> Columns
@@ -18,22 +18,18 @@ pub fn read_lines(lines: &[u8], n: usize) -> Columns
     let mut encrypted = [0u32; 31];
     let mut rs = [0u32; 31];
     let mut cs = [0u32; 31];
-    let mut i = 0;
-    while i < n {
-        let from = 32 * i;
-        let to = from + 32;
-        let line = read_record(&lines[from..to]);
+    for i in 0..n {
+        let line = record_at(lines, i);
         vs[i] = line.w3;
         encrypted[i] = line.w4;
         rs[i] = line.w5;
         cs[i] = line.w6;
-        i += 1;
     }
     Columns {
-        vs: vs,
-        encrypted: encrypted,
-        rs: rs,
-        cs: cs,
+        vs,
+        encrypted,
+        rs,
+        cs,
     }
 }
 
@@ -52,8 +48,7 @@ pub fn put_lines(
     requires { (n ≤ 31) × (length out.old ≡ 32 * n) }
     ensures { out.new ≡ records_bytes (line_from round d vs.now encrypted.now rs.now c.0) (members n) }
 {
-    let mut i = 0;
-    while i < n {
+    for i in 0..n {
         let line = line_record(
             d,
             i as u32 + 1,
@@ -63,9 +58,6 @@ pub fn put_lines(
             c,
             round,
         );
-        let from = 32 * i;
-        let to = from + 32;
-        write_record(&mut out[from..to], line);
-        i += 1;
+        write_record(&mut out[32 * i..32 * i + 32], line);
     }
 }

@@ -11,18 +11,13 @@ use sharing::Setting;
 use words::{Refusal, read_record, record_at};
 
 // Whether a record is a line of the dealer d for member i. Internal: callers ensure that the bytes are one record.
+#[tactic(auto, unfolding(crate::specs::Lines::is_line_for))]
 fn is_line_for(d: u32, i: u32, line: &[u8]) -> bool
     requires { length line.now ≡ 32 }
     ensures { result ≡ is_line_for d i (record_in line.now) }
 {
     let r = read_record(line);
-    if !is_line_record(r) {
-        return false;
-    }
-    if r.w1 != d {
-        return false;
-    }
-    r.w2 == i
+    is_line_record(r) && r.w1 == d && r.w2 == i
 }
 
 // Whether each member's record is a line of the dealer d for him. Internal: callers ensure that the bytes are n records.
@@ -30,16 +25,7 @@ fn all_lines(d: u32, lines: &[u8], n: u32) -> bool
     requires { length lines.now ≡ 32 * n }
     ensures { result ≡ all (is_line_of d lines.now) (members n) }
 {
-    let mut i = 0;
-    while i < n {
-        let from = 32 * i as usize;
-        let to = from + 32;
-        if !is_line_for(d, i + 1, &lines[from..to]) {
-            return false;
-        }
-        i += 1;
-    }
-    true
+    (0..n as usize).all(|i| is_line_for(d, i as u32 + 1, &lines[32 * i..32 * i + 32]))
 }
 
 // Whether each member's record is of that round. Internal: callers ensure that the bytes are n records.
@@ -47,14 +33,7 @@ fn all_of_round(round: u32, lines: &[u8], n: u32) -> bool
     requires { length lines.now ≡ 32 * n }
     ensures { result ≡ all (is_line_of_round round lines.now) (members n) }
 {
-    let mut i = 0;
-    while i < n {
-        if !is_of_round(round, record_at(lines, i as usize)) {
-            return false;
-        }
-        i += 1;
-    }
-    true
+    (0..n as usize).all(|i| is_of_round(round, record_at(lines, i)))
 }
 
 // The number by which the lines of the dealer d are refused: 4 a record that is no line of d for the member of its

@@ -3,7 +3,6 @@
 use mathlib.Core.Path.{◌≡◌, refl, ap, ◌∙◌}
 use Prim.Native.Nat.{◌+◌, ◌-◌, ◌*◌}
 use native.Mathlib.Omega.{arith}
-use lib.ListN.{length-set}
 use Rattle.words.specs.Lists.{entry}
 use Rattle.words.proofs.Lists.{filled_none, run-next}
 use Rattle.challenge.specs.Message.{challenge_of, coefficient_message, check_polynomial}
@@ -13,36 +12,27 @@ use Rattle.challenge.proofs.message.check_polynomial.Invariants.{coefficient_of}
 
 pub loop-k-init : goal.loop-k-init
 loop-k-init c =
-    (omega arith, omega (arith, c.requires.0.n-most), c.coefficient_message-at.auto.m ∙ refl, coefficient-put _ _ _ _ 0 0 c.coefficient_message-at.ensures.1 _ _ c.coefficient_message-at.ensures.2 refl (omega arith), filled_none 31)
-
-pub challenge-requires : goal.challenge-requires
-challenge-requires c = (c.requires.0, simp length-set (omega (arith, c.requires.0.n-most)), omega (arith, c.requires.0.n-most))
+    let m = c.coefficient_message-at.ensures in
+    (coefficient-put _ _ _ _ 0 0 m.1 _ _ m.2 refl (omega arith), filled_none 31)
 
 pub loop-k-preserved : goal.loop-k-preserved
 loop-k-preserved c =
     let l = c.loop-k in
     let a = c.args in
+    let at = c.coefficient_message-at in
     let v = entry a.vs.now in
     let Y = entry a.encrypted.now in
     let f = coefficient_of a.s a.d v Y in
     let e : l.k ≡ 0 + l.k = omega arith in
     let b : l.k ≡ l.k + 1 - 1 = omega arith in
-    let p =
-    coefficient-next a.s a.d v Y (l.k - 1) l.k c.coefficient_message-at.ensures.1 (c.coefficient_message-at.result + 1 + 8 * a.s.n) l.m
-    (omega arith) l.invariant.3
-    in (
-      omega arith,
-      l.invariant.1,
-      simp length-set l.invariant.2,
+    let p = coefficient-next a.s a.d v Y (l.k - 1) l.k at.ensures.1 (at.result + 1 + 8 * a.s.n) l.m (omega arith) l.invariant.0 in (
       p ∙ ap (coefficient_message a.s a.d v Y) b,
-      run-next f 31 0 l.k l.invariant.4 (omega arith)
-          (c.challenge.ensures ∙ ap (challenge_of a.s) p ∙ ap f e),
+      run-next f 31 0 l.k l.invariant.1 (omega arith) (c.challenge.ensures ∙ ap (challenge_of a.s) p ∙ ap f e),
     )
 
 pub returns : goal.returns
 unfolding check_polynomial
 returns c =
     let l = c.loop-k in
-    let a = c.args in
-    let e : l.k ≡ a.s.n - a.s.t = omega arith in
-    rw e at l.invariant.4
+    let end : l.k ≡ c.args.s.n - c.args.s.t = omega arith in
+    rw end at l.invariant.1

@@ -1,8 +1,8 @@
 -- `check_polynomial` meets its contract. The loop's invariant: the array holds the first k coefficients, and 0 behind; and the buffer
 -- holds the message of the last of them, at the start that of the coefficient 0.
 use mathlib.Core.Path.{◌≡◌}
-use Prim.Native.Nat.{ℕ, ◌-◌, ◌≤◌}
-use lib.ListN.{length, take}
+use Prim.Native.Nat.{ℕ, ◌-◌}
+use lib.ListN.{take}
 use Rattle.words.specs.Lists.{map, up_from, filled, entry}
 use Rattle.sharing.specs.declared.Setting.{Setting}
 use Rattle.challenge.specs.Message.{challenge_of, coefficient_message}
@@ -13,9 +13,5 @@ coefficient_of S d v Y k = challenge_of S (coefficient_message S d v Y k)
 
 abbrev pub invariant-loop-k : goal.invariant-loop-k
 invariant-loop-k l =
-    (l.k ≤ l.count) × (l.count ≤ 31) × (length l.m ≡ 265)
-    × (take l.end l.m ≡ coefficient_message l.s l.d (entry l.vs) (entry l.encrypted) (l.k - 1))
+    (take l.end l.m ≡ coefficient_message l.s l.d (entry l.vs) (entry l.encrypted) (l.k - 1))
     × (l.ds ≡ filled 31 (map (coefficient_of l.s l.d (entry l.vs) (entry l.encrypted)) (up_from 0 l.k)))
-
-abbrev pub decreases-loop-k : goal.decreases-loop-k
-decreases-loop-k l = l.count - l.k

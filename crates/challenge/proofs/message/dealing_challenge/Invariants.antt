@@ -1,8 +1,7 @@
 -- `dealing_challenge` meets its contract. The loop's invariant: the words of the first i members stand behind the head.
 use mathlib.Core.Path.{◌≡◌}
 use mathlib.Core.List.{List, [], ◌∷◌}
-use Prim.Native.Nat.{ℕ, ◌-◌, ◌≤◌}
-use lib.ListN.{length}
+use Prim.Native.Nat.{ℕ}
 use Rattle.words.specs.Lists.{entry}
 use Rattle.words.specs.Bytes.{put_at}
 use Rattle.sharing.specs.Setting.{members}
@@ -14,8 +13,4 @@ abbrev pub words : List ℕ → List ℕ → List ℕ → List ℕ → ℕ → L
 words vs encrypted a1s a2s j = entry vs j ∷ entry encrypted j ∷ entry a1s j ∷ entry a2s j ∷ []
 
 abbrev pub invariant-loop-i : goal.invariant-loop-i
-invariant-loop-i l =
-    (l.i ≤ l.n) × (l.n ≤ 31) × (l.at ≤ 16) × (length l.m ≡ 512) × (l.m ≡ put_at l.at (bytes_over (words l.vs l.encrypted l.a1s l.a2s) (members l.i)) l.initial.m)
-
-abbrev pub decreases-loop-i : goal.decreases-loop-i
-decreases-loop-i l = l.n - l.i
+invariant-loop-i l = l.m ≡ put_at l.at (bytes_over (words l.vs l.encrypted l.a1s l.a2s) (members l.i)) l.initial.m

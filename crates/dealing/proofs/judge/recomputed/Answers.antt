@@ -12,13 +12,7 @@ use Rattle.dealing.proofs.judge.recomputed.Invariants.{first_of, second_of}
 use Rattle.dealing.proofs.judge.recomputed.Goals as goal
 
 pub loop-i-init : goal.loop-i-init
-loop-i-init c = (omega arith, omega (arith, c.requires.0.n-most, c.requires.2), filled_none 31, filled_none 31)
-
-pub announced-requires : goal.announced-requires
-announced-requires c = c.requires.0.proper.prime-p.above-one
-
-pub announced-requires-in-loop-i : goal.announced-requires-in-loop-i
-announced-requires-in-loop-i c = c.requires.0.proper.prime-p.above-one
+loop-i-init c = (filled_none 31, filled_none 31)
 
 pub loop-i-preserved : goal.loop-i-preserved
 loop-i-preserved c =
@@ -26,23 +20,18 @@ loop-i-preserved c =
     let l = c.loop-i in
     let G = a.s.group in
     let at : (xs : List ℕ) → _ = λ xs. entry_at xs l.i in
-    let h : l.i < 31 = omega (arith, l.invariant.1, c.loop-i-test.true) in (
-      omega (arith, c.loop-i-test.true),
-      l.invariant.1,
-      members-next _ l.i l.invariant.2 h (c.announced.ensures ∙ (λ j. announced G G.g.0 (at a.figures.vs j) (at a.figures.cs j) (at a.figures.rs j))),
-      members-next _ l.i l.invariant.3 h
+    let h : l.i < 31 = omega arith in (
+      members-next _ l.i l.invariant.0 h (c.announced.ensures ∙ (λ j. announced G G.g.0 (at a.figures.vs j) (at a.figures.cs j) (at a.figures.rs j))),
+      members-next _ l.i l.invariant.1 h
           (c.announced-in-loop-i.ensures ∙ (λ j. announced G (at a.ys.now j) (at a.figures.encrypted j) (at a.figures.cs j) (at a.figures.rs j))),
     )
-
-pub dealing_challenge-requires : goal.dealing_challenge-requires
-dealing_challenge-requires c = (c.requires.0, c.requires.1)
 
 pub returns : goal.returns
 unfolding recomputed
 returns c =
     let a = c.args in
     let l = c.loop-i in
-    let end : l.i ≡ a.s.n = omega (arith, c.loop-i-test.false, c.requires.2) in
+    let end : l.i ≡ a.s.n = omega arith in
     c.dealing_challenge.ensures
     ∙ challenge-same a.s a.d (record { at = λ i h k. refl }) (record { at = λ i h k. refl })
-    (filled-agree (first_of a.s.group a.figures) _ (rw end at l.invariant.2)) (filled-agree (second_of a.s.group a.ys.now a.figures) _ (rw end at l.invariant.3))
+    (filled-agree (first_of a.s.group a.figures) _ (rw end at l.invariant.0)) (filled-agree (second_of a.s.group a.ys.now a.figures) _ (rw end at l.invariant.1))
