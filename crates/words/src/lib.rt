@@ -12,7 +12,7 @@ pub mod refusal;
 pub use distinct::none_twice;
 
 // Eight words: a record of a board, or a digest.
-#[derive(Clone, Copy)]
+#[derive(Clone, Copy, PartialEq, Eq, Default)]
 pub struct Record {
     pub w0: u32,
     pub w1: u32,

@@ -4,4 +4,5 @@ use Rattle.words.specs.Bytes.{agrees}
 use Rattle.chain.proofs.link.is_link_record.Goals as goal
 
 pub returns : goal.returns
-returns c = c.agrees.ensures ∙ ap (agrees c.args.r) c.link_record.ensures
+unfolding agrees
+returns c = c.eq.ensures ∙ ap (agrees c.args.r) c.link_record.ensures
