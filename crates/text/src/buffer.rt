@@ -1,4 +1,5 @@
 // Bytes and figures written into a buffer. Each function answers the place behind what it wrote.
+// Not by `write!`: the clauses of std's writer into lent bytes count what it wrote, and do not say which bytes.
 ghost use Rattle.text.specs.Text.{digits, figure};
 ghost use Rattle.text.specs.Buffer.{Room, Written};
 
