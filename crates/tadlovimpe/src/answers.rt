@@ -57,14 +57,5 @@ fn verdict_of(v: Verdict) -> VerdictFigures
 pub(crate) fn verdicts_of(places: [DealerVerdict; 31]) -> [VerdictFigures; 31]
     ensures { result ≡ map place_of places }
 {
-    let none = VerdictFigures { kind: 0, value: 0 };
-    let mut vs = [none; 31];
-    let mut i = 0;
-    while i < 31 {
-        let place = places[i];
-        let v = place.verdict;
-        vs[i] = verdict_of(v);
-        i += 1;
-    }
-    vs
+    places.map(|place| verdict_of(place.verdict))
 }

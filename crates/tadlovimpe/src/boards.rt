@@ -59,15 +59,12 @@ pub extern "C" fn tadlovimpe_judge_board(table: &[u8], round: Round, board: &[u8
     ensures { result ≡ board_on judges table.now round board.now }
 {
     let judged = rulings::judge_board(table, round, board);
-    let places = judged.verdicts;
-    let draw = judged.draw;
-    let a = answer_of(draw);
-    let vs = verdicts_of(places);
+    let a = answer_of(judged.draw);
     BoardAnswer {
         refusal: a.refusal,
         value: a.value,
         accepted: judged.accepted,
-        verdicts: vs,
+        verdicts: verdicts_of(judged.verdicts),
     }
 }
 
