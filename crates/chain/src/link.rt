@@ -21,6 +21,7 @@ pub(crate) fn link_record(round: u32, value: Element, number: u32) -> Record
 }
 
 // Whether the spare bytes behind the figures are 0.
+#[tactic(auto, unfolding(words::specs::Bytes::agrees))]
 fn is_link_record(r: Record) -> bool
     ensures { result ≡ is_link_record r }
 {

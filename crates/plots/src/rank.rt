@@ -27,6 +27,7 @@ fn rank(value: Element, radius: u8, plot: u32) -> u32
 
 // The key of a plot: its rank, and behind it its number counted down from the largest word, for of equal ranks the higher number comes
 // first.
+#[tactic(auto, unfolding(crate::specs::Sorting::sort_key))]
 fn key(value: Element, radius: u8, plot: u32) -> u64
     ensures { result ≡ sort_key (rank value.0 radius) plot }
 {

@@ -1,20 +1,15 @@
 -- `put_first` meets its contract: the keys are written and sorted, and the plots of the first ones are the picked ones.
-use mathlib.Core.Path.{sym, ap, ◌∙◌}
+use mathlib.Core.Path.{ap, ◌∙◌}
 use mathlib.Core.List.{List}
 use Prim.Native.Nat.{ℕ}
-use native.Mathlib.Omega.{arith}
 use lib.Dec.{ltb}
 use lib.ListN.{length, take}
-use lib.Seq.{length-take-le}
 use Rattle.words.specs.Lists.{map}
 use Rattle.plots.specs.Picked.{sorted}
 use Rattle.plots.specs.Sorting.{plot_of}
 use Rattle.plots.proofs.Ascending.{ascending-sorted}
 use Rattle.plots.proofs.Keys.{picked-keys}
 use Rattle.plots.proofs.put_first.Goals as goal
-
-pub put_plots-requires : goal.put_plots-requires
-put_plots-requires c = sym (length-take-le _ c.sort_unstable.new.self (omega arith))
 
 pub returns : goal.returns
 returns c =

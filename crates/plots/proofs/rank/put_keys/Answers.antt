@@ -7,7 +7,7 @@ use Rattle.words.specs.Lists.{up_from}
 use Rattle.words.proofs.Lists.{map-length, map_at, up-length, up_at}
 use Rattle.plots.specs.Rank.{rank}
 use Rattle.plots.specs.Sorting.{sort_key}
-use Rattle.plots.proofs.Loops.{copied_next, copied-end}
+use Rattle.plots.proofs.Loops.{copied_next}
 use Rattle.plots.proofs.rank.put_keys.Goals as goal
 
 pub loop-i-init : goal.loop-i-init
@@ -26,6 +26,3 @@ loop-i-preserved c =
     let s = map-length f (up_from 1 n) ∙ up-length 1 n in
     copied_next l.invariant (omega (arith, s))
         (c.key.ensures ∙ sym (map_at f (up_from 1 n) l.i 0 0 (omega (arith, up-length 1 n)) ∙ ap f (up_at 1 n l.i h ∙ omega arith)))
-
-pub returns : goal.returns
-returns c = let l = c.loop-i in copied-end l.invariant (omega (arith, l.invariant.size))
