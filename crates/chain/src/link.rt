@@ -6,7 +6,7 @@ ghost use Rattle.chain.specs.Link.{link_layout, is_link_record, no_digest, link_
 
 use group::{Element, group_in, is_element};
 use sha256::digest;
-use words::{Record, Refusal, agrees, put_word, write_record};
+use words::{Record, Refusal, put_word, write_record};
 
 // The figures of a link: the round, the draw value and the group's number.
 pub(crate) fn link_record(round: u32, value: Element, number: u32) -> Record
@@ -16,35 +16,23 @@ pub(crate) fn link_record(round: u32, value: Element, number: u32) -> Record
         w0: round,
         w1: value.0,
         w2: number,
-        w3: 0,
-        w4: 0,
-        w5: 0,
-        w6: 0,
-        w7: 0,
+        ..Record::default()
     }
 }
 
 // Whether the spare bytes behind the figures are 0.
+#[tactic(auto, unfolding(words::specs::Bytes::agrees))]
 fn is_link_record(r: Record) -> bool
     ensures { result ≡ is_link_record r }
 {
-    agrees(r, link_record(r.w0, Element(r.w1), r.w2))
+    r == link_record(r.w0, Element(r.w1), r.w2)
 }
 
 // What stands for a digest before the first link.
 pub(crate) fn no_digest() -> Record
     ensures { result ≡ no_digest }
 {
-    Record {
-        w0: 0,
-        w1: 0,
-        w2: 0,
-        w3: 0,
-        w4: 0,
-        w5: 0,
-        w6: 0,
-        w7: 0,
-    }
+    Record::default()
 }
 
 // The digest of a link, behind the digest before it. A digest of 40 bytes is not refused.
@@ -94,7 +82,7 @@ pub(crate) fn check_link(
     if figures.w0 != round {
         return Err(Refusal::NotNext);
     }
-    if !agrees(digest, link_digest(before, value, figures.w0)) {
+    if digest != link_digest(before, value, figures.w0) {
         return Err(Refusal::WrongDigest);
     }
     Ok(())

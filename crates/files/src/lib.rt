@@ -14,27 +14,18 @@ use std::fs::{Files, self};
 use std::io::{Read, Write};
 use std::str::from_utf8;
 
-// What was read of a file or an argument: so many bytes, at the start of the space that was lent; or nothing, since it is missing.
-#[derive(Clone, Copy)]
-pub enum FileAnswer {
-    Bytes(usize),
-    Missing,
-}
-
 // One read to the start of `space`. Answers how many bytes it gave; one that fails gives none.
 fn read_some<F: Read>(file: &mut F, space: &mut [u8]) -> usize
     ensures { IsPrefixLen result space.new }
 {
-    match file.read(space) {
-        Ok(got) => got,
-        Err(_) => 0,
-    }
+    file.read(space).unwrap_or(0)
 }
 
 // Reads to the start of `space` until the file ends, a read fails or the space is full, and answers how many bytes that is.
 fn fill<F: Read>(file: &mut F, space: &mut [u8]) -> usize
     ensures { IsPrefixLen result space.new }
 {
+    // A `while`, for a turn goes as far as its read gave.
     let mut done = 0;
     while done < space.len() {
         let more = read_some(file, &mut space[done..]);
@@ -46,41 +37,33 @@ fn fill<F: Read>(file: &mut F, space: &mut [u8]) -> usize
     done
 }
 
-// Reads a file from its start, as far as `space` goes. One that cannot be opened, or whose path is no UTF-8, is missing, and `space` is kept.
-pub fn read_file<R: Files>(rt: &R, path: &[u8], space: &mut [u8]) -> FileAnswer
+// Reads a file from its start, as far as `space` goes, and answers how many bytes that is. One that cannot be opened, or whose path is no
+// UTF-8, is missing: None, and `space` is kept.
+pub fn read_file<R: Files>(rt: &R, path: &[u8], space: &mut [u8]) -> Option<usize>
     ensures { Answered result space.old space.new }
 {
-    let Ok(path) = from_utf8(path) else {
-        return FileAnswer::Missing;
-    };
-    let Ok(mut file) = fs::open(rt, path) else {
-        return FileAnswer::Missing;
-    };
-    FileAnswer::Bytes(fill(&mut file, space))
+    let path = from_utf8(path).ok()?;
+    let mut file = fs::open(rt, path).ok()?;
+    Some(fill(&mut file, space))
 }
 
 // Reads a file likewise, where a missing one counts as empty, and answers how many bytes that is.
 pub fn read_or_empty<R: Files>(rt: &R, path: &[u8], space: &mut [u8]) -> usize
     ensures { IsPrefixLen result space.new }
 {
-    match read_file(rt, path, space) {
-        FileAnswer::Bytes(n) => n,
-        FileAnswer::Missing => 0,
-    }
+    read_file(rt, path, space).unwrap_or(0)
 }
 
-// The bytes of an argument of the program, where argument 0 is its own name. One that is longer than `space` counts as empty.
-pub fn argument<R: Env>(rt: &R, k: usize, space: &mut [u8]) -> FileAnswer
+// Reads an argument of the program, where argument 0 is its own name, and answers how many bytes it has; None, and `space` is kept, where
+// there is no such argument. One that is longer than `space` counts as empty.
+pub fn argument<R: Env>(rt: &R, k: usize, space: &mut [u8]) -> Option<usize>
     ensures { Answered result space.old space.new }
 {
     // Asked with no space: whether there is such an argument.
     if let Err(FillError::NotPresent) = rt.arg(k, &mut []) {
-        return FileAnswer::Missing;
+        return None;
     }
-    match rt.arg(k, space) {
-        Ok(n) => FileAnswer::Bytes(n),
-        Err(_) => FileAnswer::Bytes(0),
-    }
+    Some(rt.arg(k, space).unwrap_or(0))
 }
 
 // Writes a line to standard error: what it is about, and what is wrong with it. What cannot be written there is let go.

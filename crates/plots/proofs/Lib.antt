@@ -3,8 +3,7 @@ pub mod Loops
 pub mod Ranks
 pub mod Order
 pub mod Sorting
-pub mod Merging
-pub mod MergeLoop
+pub mod Ascending
 pub mod Keys
 pub mod Presence
 pub mod Picked

@@ -3,15 +3,13 @@
 
 ghost use Rattle.std.specs.Prelude.{◌≡◌, ◌≤◌, length};
 ghost use Rattle.words.specs.Checks.{outcome};
-ghost use Rattle.plots.specs.Sorting.{keys_of, sorted_keys, spare_after};
+ghost use Rattle.plots.specs.Sorting.{sorted_keys};
 ghost use Rattle.plots.specs.Picked.{is_radius, is_count, picked, pick_checks, pick_in, pick_outcome, lent_plots_in, lent_plots};
 
 mod rank;
-mod sort;
 
 use group::{Element, Group, group_of, is_element};
 use rank::{put_keys, put_plots};
-use sort::sort;
 use words::Refusal;
 
 // Whether plots of this radius are mapped or cruised.
@@ -25,16 +23,7 @@ fn is_radius(radius: u32) -> bool
 fn is_count(total: u32, count: u32) -> bool
     ensures { result ≡ is_count total count }
 {
-    if total < 1 {
-        return false;
-    }
-    if total > 4096 {
-        return false;
-    }
-    if count < 1 {
-        return false;
-    }
-    count <= total
+    1 <= total && total <= 4096 && 1 <= count && count <= total
 }
 
 // The first number refused of 6, 15, 16 and 3,.
@@ -56,19 +45,16 @@ fn check_pick(gr: Group, value: Element, radius: u32, total: u32, count: u32, ro
     Ok(())
 }
 
-// Writes the first plots, as many as there are places, by means of two lists with a place for every plot: the keys, which are sorted,
-// and a spare list.
-// Internal: callers ensure two lists of one length, at most 4,096, and no more places than plots.
-fn put_first(value: Element, radius: u8, keys: &mut [u64], spare: &mut [u64], out: &mut [u32])
-    requires { (length keys.old ≤ 4096) × (length spare.old ≡ length keys.old) × (length out.old ≤ length keys.old) }
+// Writes the first plots, as many as there are places, by means of a list with a place for every plot's key.
+// Internal: callers ensure at most 4,096 plots, and no more places than plots.
+fn put_first(value: Element, radius: u8, keys: &mut [u64], out: &mut [u32])
+    requires { (length keys.old ≤ 4096) × (length out.old ≤ length keys.old) }
     ensures keys_after { keys.new ≡ sorted_keys value.0 radius (length keys.old) }
-    ensures spare_after { spare.new ≡ spare_after (keys_of value.0 radius (length keys.old)) spare.old }
     ensures out_after { out.new ≡ picked value.0 radius (length keys.old) (length out.old) }
 {
-    let count = out.len();
     put_keys(keys, value, radius);
-    sort(keys, spare);
-    put_plots(&keys[..count], out);
+    keys.sort_unstable();
+    put_plots(&keys[..out.len()], out);
 }
 
 // Writes the first plots of so many in all. Internal: callers ensure at most 4,096 plots, and no more places than plots.
@@ -77,8 +63,7 @@ fn put_picked(value: Element, radius: u8, total: usize, out: &mut [u32])
     ensures { out.new ≡ picked value.0 radius total (length out.old) }
 {
     let mut keys = [0u64; 4096];
-    let mut spare = [0u64; 4096];
-    put_first(value, radius, &mut keys[..total], &mut spare[..total], out);
+    put_first(value, radius, &mut keys[..total], out);
 }
 
 // Picks plots by an element of a group: 6, 15, 16 and 3.

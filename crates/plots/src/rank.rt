@@ -27,6 +27,7 @@ fn rank(value: Element, radius: u8, plot: u32) -> u32
 
 // The key of a plot: its rank, and behind it its number counted down from the largest word, for of equal ranks the higher number comes
 // first.
+#[tactic(auto, unfolding(crate::specs::Sorting::sort_key))]
 fn key(value: Element, radius: u8, plot: u32) -> u64
     ensures { result ≡ sort_key (rank value.0 radius) plot }
 {
@@ -45,10 +46,8 @@ pub(crate) fn put_keys(keys: &mut [u64], value: Element, radius: u8)
     requires { length keys.old ≤ 4096 }
     ensures { keys.new ≡ keys_of value.0 radius (length keys.old) }
 {
-    let mut i = 0;
-    while i < keys.len() {
-        keys[i] = key(value, radius, i as u32 + 1);
-        i += 1;
+    for (i, place) in keys.iter_mut().enumerate() {
+        *place = key(value, radius, i as u32 + 1);
     }
 }
 
@@ -57,9 +56,7 @@ pub(crate) fn put_plots(keys: &[u64], out: &mut [u32])
     requires { length out.old ≡ length keys.now }
     ensures { out.new ≡ map plot_of keys.now }
 {
-    let mut i = 0;
-    while i < out.len() {
-        out[i] = plot_of(keys[i]);
-        i += 1;
+    for (i, &key) in keys.iter().enumerate() {
+        out[i] = plot_of(key);
     }
 }

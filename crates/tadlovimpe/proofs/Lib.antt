@@ -1,3 +1,2 @@
--- A law of arrays that a loop fills from another array, and the proofs of what specs/Claims.antt states.
-pub mod Mapped
+-- Proofs of what specs/Claims.antt states.
 pub mod Refusals

@@ -53,14 +53,5 @@ impl From<Verdict> for VerdictFigures {
 pub(crate) fn verdicts_of(places: [DealerVerdict; 31]) -> [VerdictFigures; 31]
     ensures { result ≡ map place_of places }
 {
-    let none = VerdictFigures { kind: 0, value: 0 };
-    let mut vs = [none; 31];
-    let mut i = 0;
-    while i < 31 {
-        let place = places[i];
-        let v = place.verdict;
-        vs[i] = VerdictFigures::from(v);
-        i += 1;
-    }
-    vs
+    places.map(|place| VerdictFigures::from(place.verdict))
 }

@@ -1,11 +1,9 @@
 -- Text written one piece behind the other: where each piece finds room, and what they are together.
 use mathlib.Core.Path.{◌≡◌, refl, sym, ap, ◌∙◌, subst}
 use mathlib.Core.List.{List, [], ◌∷◌, ◌++◌}
-use Prim.Native.Nat.{ℕ, ◌+◌, ◌≤◌, ◌<◌}
-use native.Mathlib.Numerals.{add-one}
+use Prim.Native.Nat.{ℕ, ◌+◌, ◌<◌}
 use native.Mathlib.Omega.{arith}
-use lib.ListN.{length, get_or, take, drop, set, length-append}
-use lib.Seq.{length-take-le, take-suc, take_all}
+use lib.ListN.{length, drop, set, length-append}
 use Rattle.words.specs.Bytes.{put_at}
 use Rattle.words.proofs.Bytes.{put-length, put-none, put_byte, put-put}
 use Rattle.text.specs.Buffer.{Room, Written}
@@ -70,22 +68,6 @@ written_none k r l e = record { bytes = sym (put-none k l); behind = omega arith
 
 pub written_one : (k x : ℕ) (l : List ℕ) → k < length l → Written k (x ∷ []) l (set l k x) (k + 1)
 written_one k x l h = record { bytes = put_byte k x l h; behind = refl }
-
--- ---- a list of bytes, from its first on
-module _ (k : ℕ) (xs l : List ℕ) (room : Room k xs l) where
-  pub next-byte : (i : ℕ) {m : List ℕ} → i < length xs → Written k (take i xs) l m (k + i)
-      → Written k (take (i + 1) xs) l (set m (k + i) (get_or xs i 0)) (k + (i + 1))
-  next-byte i {m} h w =
-      let e : take (i + 1) xs ≡ take i xs ++ (get_or xs i 0 ∷ []) = rw add-one (take-suc xs i 0 h) in
-      let s = length-take-le i xs (omega arith) in
-      let fits : Room k (take i xs ++ (get_or xs i 0 ∷ [])) l =
-      record { fits = omega (arith, room.fits, length-append (take i xs) (get_or xs i 0 ∷ [])) } in
-      let one = written_one (k + i) (get_or xs i 0) m (omega (arith, (room-rest (take i xs) _ fits w).fits)) in
-      let o : k + i + 1 ≡ k + (i + 1) = omega arith in
-      rw (e, ← o) (both (take i xs) _ fits w one)
-
-  pub all-bytes : (i : ℕ) {m : List ℕ} → length xs ≤ i → Written k (take i xs) l m (k + i) → Written k xs l m (k + i)
-  all-bytes i h w = rw (take_all i xs h) at w
 
 -- ---- at the start of a buffer
 pub at-start : (bs l m : List ℕ) (r : ℕ) → Written 0 bs l m r → (r ≡ length bs) × (m ≡ bs ++ drop r l)

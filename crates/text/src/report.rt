@@ -15,13 +15,8 @@ fn put_dealers(out: &mut [u8], at: usize, n: u32, verdicts: [DealerVerdict; 31])
     ensures { Written at (dealer_lines 1 (verdicts_at n verdicts)) out.old out.new result }
 {
     let mut next = at;
-    let mut i: u32 = 0;
-    while i < n {
-        let place = i as usize;
-        let held = verdicts[place];
-        let v = held.verdict;
-        next = put_dealer(out, next, i + 1, v);
-        i += 1;
+    for i in 0..n {
+        next = put_dealer(out, next, i + 1, verdicts[i as usize].verdict);
     }
     next
 }
@@ -31,10 +26,8 @@ pub(crate) fn put_report(out: &mut [u8], s: Setting, judgement: Judgement) -> us
     requires { (s.n ≤ 31) × (Room 0 (report_from s judgement) out.old) }
     ensures { Written 0 (report_from s judgement) out.old out.new result }
 {
-    let verdicts = judgement.verdicts;
-    let draw = judgement.draw;
     let a = put_round(out, 0, s);
-    let b = put_dealers(out, a, s.n, verdicts);
+    let b = put_dealers(out, a, s.n, judgement.verdicts);
     let c = put_line(out, b, b"accepted", judgement.accepted);
-    put_draw(out, c, draw)
+    put_draw(out, c, judgement.draw)
 }

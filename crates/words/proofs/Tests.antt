@@ -10,7 +10,7 @@ use borrow.Author.Tests.{eq-eqb, ne_eqb, eqb-true, eqb-false, not-true, not-fals
 use lib.ListN.{length, get_or, take, drop, length-drop}
 use lib.Seq.{drop-length, take_all}
 use lib.Dec.{eqb}
-use Rattle.std.specs.List.{list_all}
+use Rattle.std.specs.List.{list_any, list_all}
 use Rattle.words.specs.Choice.{pick}
 use Rattle.words.specs.Lists.{All, Distinct, map, all, absent, none_twice}
 use Rattle.words.proofs.Lists.{Pairwise-at, drop-next}

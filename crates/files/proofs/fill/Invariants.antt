@@ -1,9 +1,9 @@
 -- `fill`: what is read lies within the space, whose length is kept.
-use Rattle.std.proofs.Common.{◌≡◌, ◌≤◌, ◌-◌, length}
+use Rattle.std.proofs.Common.{◌≤◌, ◌-◌, length}
 use Rattle.files.proofs.fill.Given as goal
 
 abbrev pub invariant-loop-done : goal.invariant-loop-done
-invariant-loop-done g l = (length l.space ≡ length l.initial.space) × (l.done ≤ length l.space)
+invariant-loop-done g l = l.done ≤ length l.space
 
 abbrev pub decreases-loop-done : goal.decreases-loop-done
 decreases-loop-done g l = length l.space - l.done

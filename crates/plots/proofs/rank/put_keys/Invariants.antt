@@ -1,14 +1,8 @@
 -- `put_keys` meets its contract. The loop's invariant: the first i places hold the keys of the first i plots.
-use mathlib.Core.Path.{◌≡◌}
-use Prim.Native.Nat.{◌-◌}
 use lib.ListN.{length}
 use Rattle.plots.specs.Sorting.{keys_of}
 use Rattle.plots.proofs.Loops.{Copied}
 use Rattle.plots.proofs.rank.put_keys.Given as goal
 
 abbrev pub invariant-loop-i : goal.invariant-loop-i
-invariant-loop-i l =
-    (length l.keys ≡ length l.initial.keys) × Copied (keys_of l.value.0 l.radius (length l.initial.keys)) l.keys l.i
-
-abbrev pub decreases-loop-i : goal.decreases-loop-i
-decreases-loop-i l = length l.initial.keys - l.i
+invariant-loop-i l = Copied (keys_of l.value.0 l.radius (length l.initial.keys)) l.keys l.i

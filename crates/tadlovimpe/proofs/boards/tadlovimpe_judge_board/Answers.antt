@@ -8,5 +8,5 @@ pub returns : goal.returns
 returns c =
     let j = c.judge_board-judged.ensures in
     let a = c.answer_of-a.ensures ∙ ap answer_of j.draw in
-    let v = c.verdicts_of-vs.ensures ∙ ap (map place_of) j.verdicts in
+    let v = c.verdicts_of.ensures ∙ ap (map place_of) j.verdicts in
     λ i. record { refusal = (a i).refusal; value = (a i).value; accepted = j.accepted i; verdicts = v i }

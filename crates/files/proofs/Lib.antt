@@ -1,2 +1,0 @@
--- The laws that proofs of this crate, and of those who call it, share.
-pub mod Answers
