@@ -35,16 +35,11 @@ pub fn place_of(b: &[u8], k: u32, d: u32, m: u32) -> usize
 }
 
 // Whether r has the address of kind k, dealer d and member m.
+#[tactic(auto, unfolding(crate::specs::Board::is_at))]
 fn is_at(r: Record, k: u32, d: u32, m: u32) -> bool
     ensures { result ≡ is_at r k d m }
 {
-    if r.w0 != k {
-        return false;
-    }
-    if r.w1 != d {
-        return false;
-    }
-    r.w2 == m
+    r.w0 == k && r.w1 == d && r.w2 == m
 }
 
 // Where the record with the address of kind k, dealer d and member m stands, the number of records where there is none.
@@ -55,13 +50,11 @@ fn record_place(b: &[u8], k: u32, d: u32, m: u32) -> usize
 {
     let all = record_count(b);
     let at = place_of(b, k, d, m);
-    if at >= all {
-        return all;
+    if at < all && is_at(record_at(b, at), k, d, m) {
+        at
+    } else {
+        all
     }
-    if !is_at(record_at(b, at), k, d, m) {
-        return all;
-    }
-    at
 }
 
 // Where the key record of member m stands, the number of records where there is none.
