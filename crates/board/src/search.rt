@@ -6,7 +6,7 @@ ghost use Rattle.board.specs.Sorted.{Sorted};
 
 use crate::form::is_below;
 use records::{KEY, OPENING};
-use words::{Record, record_at};
+use words::{Record, read_record, record_at};
 
 // The number of records.
 pub fn record_count(b: &[u8]) -> usize
@@ -21,17 +21,8 @@ pub fn place_of(b: &[u8], k: u32, d: u32, m: u32) -> usize
     requires { Sorted b.now }
     ensures { result ≡ place_of b.now k d m }
 {
-    let mut low = 0;
-    let mut high = record_count(b);
-    while low < high {
-        let mid = (low + high) / 2;
-        if is_below(record_at(b, mid), k, d, m) {
-            low = mid + 1;
-        } else {
-            high = mid;
-        }
-    }
-    low
+    let (records, _) = b.as_chunks::<32>();
+    records.partition_point(|r| is_below(read_record(r), k, d, m))
 }
 
 // Whether r has the address of kind k, dealer d and member m.
