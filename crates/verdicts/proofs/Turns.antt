@@ -123,14 +123,15 @@ above-start w p n =
 module _ (w : ℕ → Verdict) (p n d : ℕ) (verdicts : List DealerVerdict) (accepted : ℕ) (stuck : Bool) (product : ℕ) (T : DealersAbove w p n d verdicts accepted stuck product) where
   pub above-next : 0 < d → n ≤ 31 → (v : Verdict) (c : ℕ) (y : Bool) (x : ℕ)
       → v ≡ w d → c ≡ count_one v → y ≡ pick (is_stuck v) true stuck → x ≡ times_secret p v product
-      → DealersAbove w p n (d - 1) (set verdicts (d - 1) (record { verdict = v })) (c + accepted) y x
+      → DealersAbove w p n (d - 1) (set verdicts (d - 1) (record { verdict = v })) (accepted + c) y x
   above-next h l v c y x e ec ey ex =
       let m = above_more w n d h T.within in
+      let turned : accepted + c ≡ c + accepted = omega arith in
       record {
         within = omega (arith, T.within);
         size = length-set verdicts (d - 1) (record { verdict = v }) ∙ T.size;
         filled = places-next w n d verdicts (record { verdict = v }) h T.within l T.size T.filled (λ j. record { verdict = e j });
-        count = (λ j. ec j + T.count j) ∙ ap (λ (u : Verdict). count_one u + count_accepted (map w (dealers_above n d))) e ∙ ap count_accepted (sym m);
+        count = turned ∙ (λ j. ec j + T.count j) ∙ ap (λ (u : Verdict). count_one u + count_accepted (map w (dealers_above n d))) e ∙ ap count_accepted (sym m);
         any = ey ∙ (λ j. pick (is_stuck (e j)) true (T.any j)) ∙ ap any_stuck (sym m);
         whole = ex ∙ (λ j. times_secret p (e j) (T.whole j)) ∙ ap (secrets_product p) (sym m);
         few = omega (arith, ec, count_most v, T.few, T.within);

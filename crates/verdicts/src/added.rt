@@ -27,12 +27,8 @@ fn ones(n: usize) -> MemberProducts
     requires { n ≤ 31 }
     ensures { result.of ≡ filled 31 (map (λ i. 1) (members n)) }
 {
-    let mut of = [0u32; 31];
-    let mut i = 0;
-    while i < n {
-        of[i] = 1;
-        i += 1;
-    }
+    let mut of = [0; 31];
+    of[..n].fill(1);
     MemberProducts { of }
 }
 
@@ -42,13 +38,10 @@ fn times_lines(gr: Group, n: usize, lines: &[u8], products: MemberProducts) -> M
     requires { (0 < gr.p) × (n ≤ 31) × (length lines.now ≡ 32 * n) }
     ensures { result.of ≡ filled 31 (map (λ i. mul gr.p (Y_in lines.now i) (entry products.of i)) (members n)) }
 {
-    let before = products.of;
-    let mut of = [0u32; 31];
-    let mut i = 0;
-    while i < n {
+    let mut of = [0; 31];
+    for i in 0..n {
         let encrypted = Element(record_at(lines, i).w4);
-        of[i] = encrypted.times(gr, Element(before[i])).0;
-        i += 1;
+        of[i] = encrypted.times(gr, Element(products.of[i])).0;
     }
     MemberProducts { of }
 }
@@ -66,8 +59,7 @@ fn times_dealing(
     ensures { result.of ≡ filled 31 (map (times_accepted judges s b.now d (entry products.of)) (members s.n)) }
 {
     match v {
-        Verdict::None => products,
-        Verdict::Refused(_) => products,
+        Verdict::None | Verdict::Refused(_) => products,
         Verdict::Accepted(_) => times_lines(s.group, s.n as usize, lines_of(b, d), products),
     }
 }
@@ -79,13 +71,8 @@ fn multiplied_shares(s: Setting, b: &[u8], verdicts: [DealerVerdict; 31]) -> Mem
     ensures { result.of ≡ filled 31 (multiplied judges s b.now Y_in) }
 {
     let mut products = ones(s.n as usize);
-    let mut d = s.n;
-    while d > 0 {
-        let at = d as usize - 1;
-        let held = verdicts[at];
-        let v = held.verdict;
-        products = times_dealing(s, b, d, v, products);
-        d -= 1;
+    for d in (1..=s.n).rev() {
+        products = times_dealing(s, b, d, verdicts[d as usize - 1].verdict, products);
     }
     products
 }
@@ -96,8 +83,6 @@ pub(crate) fn added_draw(s: Setting, b: &[u8], verdicts: [DealerVerdict; 31]) ->
     requires { (ProperSetting s) × (Met (board_checks s b.now)) × (verdicts ≡ verdict_places (verdict_on judges s b.now) s.n) }
     ensures { element_outcome_of result ≡ from_lowest s b.now (added_by judges s b.now) }
 {
-    let n = s.n as usize;
     let products = multiplied_shares(s, b, verdicts);
-    let encrypted = products.of;
-    from_lowest(s, added_form(), b, &encrypted[..n])
+    from_lowest(s, added_form(), b, &products.of[..s.n as usize])
 }

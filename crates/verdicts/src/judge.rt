@@ -23,8 +23,7 @@ fn count_one(v: Verdict) -> u32
     ensures { result ≡ count_one v }
 {
     match v {
-        Verdict::None => 0,
-        Verdict::Refused(_) => 0,
+        Verdict::None | Verdict::Refused(_) => 0,
         Verdict::Accepted(_) => 1,
     }
 }
@@ -33,15 +32,7 @@ fn count_one(v: Verdict) -> u32
 fn any_stuck(v: Verdict, before: bool) -> bool
     ensures { result ≡ pick (is_stuck v) true before }
 {
-    match v {
-        Verdict::None => before,
-        Verdict::Refused(_) => before,
-        Verdict::Accepted(s) => match s {
-            Secret::Opened(_) => before,
-            Secret::Recovered(_) => before,
-            Secret::Stuck => true,
-        },
-    }
+    before || matches!(v, Verdict::Accepted(Secret::Stuck))
 }
 
 // A secret's value, 1 for a stuck one.
@@ -49,8 +40,7 @@ fn secret_value(s: Secret) -> Element
     ensures { result.0 ≡ secret_value s }
 {
     match s {
-        Secret::Opened(v) => v,
-        Secret::Recovered(v) => v,
+        Secret::Opened(v) | Secret::Recovered(v) => v,
         Secret::Stuck => Element(1),
     }
 }
@@ -62,8 +52,7 @@ fn times_secret(gr: Group, v: Verdict, x: Element) -> Element
     ensures { result.0 ≡ times_secret gr.p v x.0 }
 {
     match v {
-        Verdict::None => x,
-        Verdict::Refused(_) => x,
+        Verdict::None | Verdict::Refused(_) => x,
         Verdict::Accepted(s) => secret_value(s).times(gr, x),
     }
 }
@@ -107,15 +96,12 @@ pub fn all_verdicts(s: Setting, b: &[u8]) -> Judgement
     let mut accepted: u32 = 0;
     let mut stuck = false;
     let mut product = Element(1);
-    let mut d = s.n;
-    while d > 0 {
+    for d in (1..=s.n).rev() {
         let v = verdict(s, &ys[..n], b, d);
-        accepted = count_one(v) + accepted;
+        accepted += count_one(v);
         stuck = any_stuck(v, stuck);
         product = times_secret(s.group, v, product);
-        d -= 1;
-        let at = d as usize;
-        verdicts[at] = DealerVerdict { verdict: v };
+        verdicts[d as usize - 1] = DealerVerdict { verdict: v };
     }
     Judgement {
         verdicts,

@@ -5,18 +5,9 @@ use Rattle.share.specs.declared.ShareForm.{ShareForm}
 use Rattle.verdicts.specs.Shares.{judges, shares_in, from_lowest}
 use Rattle.verdicts.specs.Posted.{SharesOn}
 use Rattle.verdicts.specs.Added.{multiplied}
-use Rattle.verdicts.proofs.Secrets.{full-taken}
 use Rattle.verdicts.proofs.Products.{products-front, added-shares}
 use Rattle.lines.specs.Lines.{Y_in}
 use Rattle.verdicts.proofs.added.added_draw.Goals as goal
-
-pub slice_bounds-encrypted-end : goal.slice_bounds-encrypted-end
-slice_bounds-encrypted-end c =
-    let front : let a = c.args in take a.s.n c.multiplied_shares-products.result.of ≡ multiplied judges a.s a.b.now Y_in =
-    products-front c.args.s c.args.b.now c.requires.0 c.requires.1 c.multiplied_shares-products.ensures in
-    let front-size : let a = c.args in length (take a.s.n c.multiplied_shares-products.result.of) ≡ a.s.n =
-    (added-shares c.args.s c.args.b.now c.requires.0 c.requires.1 front).size in
-    full-taken _ _ front-size
 
 pub slice_bounds-from_lowest-end : goal.slice_bounds-from_lowest-end
 slice_bounds-from_lowest-end c =

@@ -1,6 +1,7 @@
 -- `times_dealing` meets its contract: the verdict says whether the dealing is accepted, and then the dealer has n lines.
 use mathlib.Core.Path.{ap, ◌∙◌}
 use mathlib.Core.List.{List}
+use mathlib.Core.Logic.{inl, inr}
 use Prim.Native.Nat.{ℕ}
 use native.Mathlib.Omega.{arith}
 use lib.ListN.{length}
@@ -26,12 +27,7 @@ times_lines-requires c =
 pub returns-in-None : goal.returns-in-None
 returns-in-None c =
     let a = c.args in
-    part_none a.s c.requires.0 a.b.now a.d c.requires.2 (ap accepts c.in-None.is) _ c.requires.3
-
-pub returns-in-Refused : goal.returns-in-Refused
-returns-in-Refused c =
-    let a = c.args in
-    part_none a.s c.requires.0 a.b.now a.d c.requires.2 (ap accepts c.in-Refused.is) _ c.requires.3
+    part_none a.s c.requires.0 a.b.now a.d c.requires.2 (elim c.in-None.is [ | inl e ↦ ap accepts e | inr e ↦ ap accepts e.1 ]) _ c.requires.3
 
 pub returns-in-Accepted : goal.returns-in-Accepted
 returns-in-Accepted c =

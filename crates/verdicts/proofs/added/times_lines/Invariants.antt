@@ -1,6 +1,5 @@
 -- `times_lines` meets its contract. The loop's invariant: the array holds the products of the first i members, and 0 behind.
 use mathlib.Core.Path.{◌≡◌}
-use Prim.Native.Nat.{◌-◌, ◌≤◌}
 use Rattle.words.specs.Lists.{map, filled, entry}
 use Rattle.field.specs.Residue.{mul}
 use Rattle.sharing.specs.Setting.{members}
@@ -8,7 +7,4 @@ use Rattle.lines.specs.Lines.{Y_in}
 use Rattle.verdicts.proofs.added.times_lines.Given as goal
 
 abbrev pub invariant-loop-i : goal.invariant-loop-i
-invariant-loop-i l = (l.i ≤ l.n) × (l.of ≡ filled 31 (map (λ j. mul l.gr.p (Y_in l.lines j) (entry l.before j)) (members l.i)))
-
-abbrev pub decreases-loop-i : goal.decreases-loop-i
-decreases-loop-i l = l.n - l.i
+invariant-loop-i l = l.of ≡ filled 31 (map (λ j. mul l.gr.p (Y_in l.lines j) (entry l.products.of j)) (members l.i))
