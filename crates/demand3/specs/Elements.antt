@@ -52,8 +52,7 @@ JudgesTakeElements = TakesElements judges
 
 -- so whatever the board judge answers over a table and a round lies in the round's group
 pub record ElementsAnswered (T : List ℕ) (R : Round) (b : List ℕ) : Type 0 where
-  pub secrets : (A : Judgement) → JudgementOf judges T R b A
-      → All (λ w. SecretElement (setting_in T R).group w.verdict) A.verdicts
+  pub secrets : (A : Judgement) → JudgementOf judges T R b A → All (SecretElement (setting_in T R).group) A.verdicts
   pub draw : (v : Element) → draw_outcome judges T R b ≡ value v → is_element (setting_in T R).group v.0 ≡ true
 
 abbrev pub AnswersElements : Type 0

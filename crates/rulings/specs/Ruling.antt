@@ -12,7 +12,7 @@ use Rattle.board.specs.Board.{board_checks}
 use Rattle.verdicts.specs.Shares.{Judges}
 use Rattle.verdicts.specs.Verdict.{verdict_on, verdicts_on}
 use Rattle.verdicts.specs.Draw.{count_accepted, draw_outcome, verdict_places, no_verdicts, JudgementIn}
-use Rattle.verdicts.specs.declared.DealerVerdict.{DealerVerdict}
+use Rattle.verdicts.specs.declared.Verdict.{Verdict}
 use Rattle.verdicts.specs.declared.Judgement.{Judgement}
 use Rattle.rulings.specs.Files.{round_in, setting_checks, files_outcome}
 use Rattle.rulings.specs.declared.Ruling.{Ruling}
@@ -52,7 +52,7 @@ abbrev pub ruling_checks : List ℕ → List ℕ → List ℕ → List Check
 ruling_checks T s b = setting_checks T s ++ board_checks (setting_in T (round_in s)) b
 
 -- ---- of a table, a round and a board: no verdict where a check before them refuses
-abbrev pub places_on : Judges → List ℕ → Round → List ℕ → List DealerVerdict
+abbrev pub places_on : Judges → List ℕ → Round → List ℕ → List Verdict
 places_on J T R b = judged_else T R (λ S. board_checks S b) (λ S. verdict_places (verdict_on J S b) S.n) no_verdicts
 
 abbrev pub count_on : Judges → List ℕ → Round → List ℕ → ℕ

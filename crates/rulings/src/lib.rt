@@ -13,7 +13,7 @@ use board::board_refusal_in;
 use group::{ElementAnswer, table_refusal};
 use records::is_set_record;
 use sharing::{Round, SettingAnswer, setting_in, setting_of};
-use verdicts::{DealerVerdict, Judgement, Verdict, all_verdicts};
+use verdicts::{Judgement, Verdict, all_verdicts};
 use words::{read_record, refusal};
 
 // The setting, where verdicts are reached, and the judgement on the board. Where a check before the verdicts refuses, both hold its number,
@@ -28,11 +28,8 @@ pub struct Ruling {
 fn refused_board(k: u32) -> Judgement
     ensures { result ≡ refused_board k }
 {
-    let none = DealerVerdict {
-        verdict: Verdict::None,
-    };
     Judgement {
-        verdicts: [none; 31],
+        verdicts: [Verdict::None; 31],
         accepted: 0,
         draw: ElementAnswer::Refused(k),
     }

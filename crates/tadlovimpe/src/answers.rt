@@ -3,11 +3,11 @@ ghost use Rattle.std.specs.Prelude.{◌≡◌};
 ghost use Rattle.words.specs.Lists.{map};
 ghost use Rattle.words.specs.Checks.{check_outcome_of};
 ghost use Rattle.group.specs.Answer.{element_outcome_of};
-ghost use Rattle.tadlovimpe.specs.Figures.{number_of, answer_of, verdict_of, place_of};
+ghost use Rattle.tadlovimpe.specs.Figures.{number_of, answer_of, verdict_of};
 
 use crate::{Answer, VerdictFigures};
 use group::ElementAnswer;
-use verdicts::{DealerVerdict, Secret, Verdict};
+use verdicts::{Secret, Verdict};
 use words::CheckAnswer;
 
 pub(crate) fn number_of(a: CheckAnswer) -> u32
@@ -54,16 +54,14 @@ fn verdict_of(v: Verdict) -> VerdictFigures
     }
 }
 
-pub(crate) fn verdicts_of(places: [DealerVerdict; 31]) -> [VerdictFigures; 31]
-    ensures { result ≡ map place_of places }
+pub(crate) fn verdicts_of(places: [Verdict; 31]) -> [VerdictFigures; 31]
+    ensures { result ≡ map verdict_of places }
 {
     let none = VerdictFigures { kind: 0, value: 0 };
     let mut vs = [none; 31];
     let mut i = 0;
     while i < 31 {
-        let place = places[i];
-        let v = place.verdict;
-        vs[i] = verdict_of(v);
+        vs[i] = verdict_of(places[i]);
         i += 1;
     }
     vs

@@ -6,11 +6,11 @@ ghost use Rattle.text.specs.Report.{verdicts_at, report_from};
 
 use crate::line::{put_dealer, put_draw, put_line, put_round};
 use sharing::Setting;
-use verdicts::{DealerVerdict, Judgement};
+use verdicts::{Judgement, Verdict};
 
 // Writes the lines of the dealers 1 to n from `at` on, and answers the place behind them.
 // Internal: callers ensure that n is at most 31, and room for the lines.
-fn put_dealers(out: &mut [u8], at: usize, n: u32, verdicts: [DealerVerdict; 31]) -> usize
+fn put_dealers(out: &mut [u8], at: usize, n: u32, verdicts: [Verdict; 31]) -> usize
     requires { (n ≤ 31) × (Room at (dealer_lines 1 (verdicts_at n verdicts)) out.old) }
     ensures { Written at (dealer_lines 1 (verdicts_at n verdicts)) out.old out.new result }
 {
@@ -18,8 +18,7 @@ fn put_dealers(out: &mut [u8], at: usize, n: u32, verdicts: [DealerVerdict; 31])
     let mut i: u32 = 0;
     while i < n {
         let place = i as usize;
-        let held = verdicts[place];
-        let v = held.verdict;
+        let v = verdicts[place];
         next = put_dealer(out, next, i + 1, v);
         i += 1;
     }

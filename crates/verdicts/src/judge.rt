@@ -12,7 +12,7 @@ ghost use Rattle.verdicts.specs.Draw.{count_one, secret_value, times_secret, end
 
 use crate::added::added_draw;
 use crate::verdicts::verdict;
-use crate::{DealerVerdict, Judgement, Secret, Verdict};
+use crate::{Judgement, Secret, Verdict};
 use board::board_keys;
 use group::{Element, ElementAnswer, Group};
 use sharing::Setting;
@@ -63,7 +63,7 @@ fn times_secret(gr: Group, v: Verdict, x: Element) -> Element
 fn draw_answer(
     s: Setting,
     b: &[u8],
-    verdicts: [DealerVerdict; 31],
+    verdicts: [Verdict; 31],
     accepted: u32,
     stuck: bool,
     product: Element,
@@ -89,10 +89,7 @@ pub fn all_verdicts(s: Setting, b: &[u8]) -> Judgement
 {
     let n = s.n as usize;
     let ys = board_keys(b, s.n);
-    let none = DealerVerdict {
-        verdict: Verdict::None,
-    };
-    let mut verdicts = [none; 31];
+    let mut verdicts = [Verdict::None; 31];
     let mut accepted: u32 = 0;
     let mut stuck = false;
     let mut product = Element(1);
@@ -101,7 +98,7 @@ pub fn all_verdicts(s: Setting, b: &[u8]) -> Judgement
         accepted += count_one(v);
         stuck = any_stuck(v, stuck);
         product = times_secret(s.group, v, product);
-        verdicts[d as usize - 1] = DealerVerdict { verdict: v };
+        verdicts[d as usize - 1] = v;
     }
     Judgement {
         verdicts,

@@ -2,7 +2,7 @@
 use mathlib.Core.Path.{◌≡◌, refl, sym, ◌∙◌}
 use native.Mathlib.Omega.{arith}
 use lib.ListN.{length-set}
-use Rattle.tadlovimpe.specs.Figures.{place_of}
+use Rattle.tadlovimpe.specs.Figures.{verdict_of}
 use Rattle.tadlovimpe.proofs.Mapped.{mapped_next, mapped-all}
 use Rattle.tadlovimpe.proofs.answers.verdicts_of.Goals as goal
 
@@ -35,7 +35,7 @@ loop-i-preserved c =
     let s = c.args.places in (
       omega arith,
       simp length-set c.loop-i.invariant.1,
-      mapped_next place_of s _ c.loop-i.i c.loop-i.invariant.2 _ (omega (arith, c.loop-i.invariant.1)) (omega arith) c.verdict_of.ensures,
+      mapped_next verdict_of s _ c.loop-i.i c.loop-i.invariant.2 _ (omega (arith, c.loop-i.invariant.1)) (omega arith) c.verdict_of.ensures,
     )
 
 pub returns : goal.returns
@@ -43,4 +43,4 @@ returns c =
     let l = c.loop-i in
     let s = c.args.places in
     let e : l.i ≡ 31 = omega arith in
-    mapped-all place_of s _ l.i l.invariant.2 (l.invariant.1 ∙ sym e) (omega arith)
+    mapped-all verdict_of s _ l.i l.invariant.2 (l.invariant.1 ∙ sym e) (omega arith)

@@ -3,11 +3,11 @@ use mathlib.Core.Path.{◌≡◌}
 use Prim.Native.Nat.{◌-◌, ◌≤◌}
 use lib.ListN.{length, take}
 use Rattle.words.specs.Lists.{map}
-use Rattle.tadlovimpe.specs.Figures.{place_of}
+use Rattle.tadlovimpe.specs.Figures.{verdict_of}
 use Rattle.tadlovimpe.proofs.answers.verdicts_of.Given as goal
 
 abbrev pub invariant-loop-i : goal.invariant-loop-i
-invariant-loop-i l = (l.i ≤ 31) × (length l.vs ≡ 31) × (take l.i l.vs ≡ take l.i (map place_of l.places))
+invariant-loop-i l = (l.i ≤ 31) × (length l.vs ≡ 31) × (take l.i l.vs ≡ take l.i (map verdict_of l.places))
 
 abbrev pub decreases-loop-i : goal.decreases-loop-i
 decreases-loop-i l = 31 - l.i

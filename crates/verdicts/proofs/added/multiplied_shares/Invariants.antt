@@ -4,4 +4,4 @@ use Rattle.verdicts.proofs.Products.{ProductsAbove}
 use Rattle.verdicts.proofs.added.multiplied_shares.Given as goal
 
 abbrev pub invariant-loop-d : goal.invariant-loop-d
-invariant-loop-d l = ProductsAbove judges l.s l.b l.d l.products.of
+invariant-loop-d l = ProductsAbove judges l.s l.b l.d l.products
