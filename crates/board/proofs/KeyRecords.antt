@@ -1,16 +1,18 @@
 -- Every member has one key record: 12 says that the search finds one, and two of one member would have one address. His key is his own,
 -- by 22, which refuses every other board.
-use mathlib.Core.Path.{◌≡◌, sym, ap, ◌∙◌}
-use mathlib.Core.Bool.{Bool, true}
-use mathlib.Core.List.{List, []}
+use mathlib.Core.Path.{◌≡◌, refl, sym, ◌∙◌}
+use mathlib.Core.Bool.{Bool, true, false}
+use mathlib.Core.List.{List}
 use mathlib.Core.Logic.{inr}
 use Prim.Native.Nat.{ℕ}
 use native.Mathlib.Omega.{arith}
 use borrow.Author.Tests.{ltb-true}
+use Rattle.std.proofs.Common.{Option, Some, None}
+use Rattle.std.proofs.lemmas.Option.{none-some, same_Some}
 use Rattle.words.specs.Choice.{pick}
 use Rattle.words.specs.Lists.{all, filled}
 use Rattle.words.specs.Bytes.{records_in, record_at}
-use Rattle.words.proofs.Tests.{all_map}
+use Rattle.words.proofs.Tests.{all_map, pick_true}
 use Rattle.words.proofs.Stages.{rest-first}
 use Rattle.sharing.specs.Setting.{members}
 use Rattle.sharing.proofs.EachMember.{members-exactly, members-own}
@@ -20,19 +22,30 @@ use Rattle.records.proofs.ProperKeys.{keys-proper, equal-keys}
 use Rattle.board.specs.Board.{key_place, has_key, key_in, keys_in, form_checks, board_key_checks, board_checks}
 use Rattle.board.specs.Loops.{found_keys}
 use Rattle.board.specs.Claims.{KeysExact, BoardKeyTwice}
-use Rattle.board.specs.declared.FoundKeys.{FoundKeys}
 use Rattle.board.proofs.Order.{reached, shapes, sorted}
 use Rattle.board.proofs.Places.{at_true, true-at, record_is, only-record}
 
--- the keys as they are found: whether every member has one, and then they
-module _ (n : ℕ) (b : List ℕ) {F : FoundKeys} (e : F ≡ found_keys n b) where
-  pub found_all : F.complete ≡ all (has_key b) (members n)
-  unfolding found_keys
-  found_all = ap (λ (x : FoundKeys). x.complete) e
+-- the keys are found exactly where every member has one
+kept : {A : Type 0} (t : Bool) (x y : A) → pick t (Some x) None ≡ Some y → (t ≡ true) × (y ≡ x)
+kept true x y e = (refl, sym (same_Some x y e))
+kept false x y e = absurd (none-some y e)
 
-  pub found-filled : all (has_key b) (members n) ≡ true → F.ys ≡ filled 31 (keys_in n b)
+missed : {A : Type 0} (t : Bool) (x : A) → pick t (Some x) None ≡ None → t ≡ false
+missed true x e = absurd (none-some x (sym e))
+missed false x e = refl
+
+module _ (n : ℕ) (b : List ℕ) {o : Option (List ℕ)} (e : o ≡ found_keys n b) where
+  pub keys-found : all (has_key b) (members n) ≡ true → o ≡ Some (filled 31 (keys_in n b))
   unfolding found_keys
-  found-filled h = ap (λ (x : FoundKeys). x.ys) e ∙ ap (λ (t : Bool). filled 31 (pick t (keys_in n b) [])) h
+  keys-found h = e ∙ pick_true (all (has_key b) (members n)) _ _ h
+
+  pub some-found : {ys : List ℕ} → o ≡ Some ys → (all (has_key b) (members n) ≡ true) × (ys ≡ filled 31 (keys_in n b))
+  unfolding found_keys
+  some-found {ys} f = kept (all (has_key b) (members n)) (filled 31 (keys_in n b)) ys (sym e ∙ f)
+
+  pub none-found : o ≡ None → all (has_key b) (members n) ≡ false
+  unfolding found_keys
+  none-found f = missed (all (has_key b) (members n)) (filled 31 (keys_in n b)) (sym e ∙ f)
 
 pub keys-exact : KeysExact
 unfolding key_checks

@@ -2,6 +2,7 @@
 pub mod Searches
 pub mod Order
 pub mod Places
+pub mod Chunks
 pub mod KeyRecords
 pub mod LineRun
 pub mod Steps

@@ -8,7 +8,7 @@ use Prim.Native.Nat.{ℕ, ◌<◌, ◌≤◌}
 use native.Mathlib.Nat.{eq-or-lt_of_le}
 use native.Mathlib.Decide.{dec_le}
 use native.Mathlib.Omega.{arith}
-use borrow.Author.Tests.{ltb-true, ltb-false, lt-ltb, le-ltb, eqb-true, eq-eqb, not-true, not-false}
+use borrow.Author.Tests.{ltb-true, lt-ltb, le-ltb, eqb-true, eq-eqb, not-true, not-false}
 use lib.Dec.{ltb, eqb}
 use Rattle.words.specs.Bytes.{records_in, record_at}
 use Rattle.words.specs.declared.Record.{Record}
@@ -70,17 +70,6 @@ module _ {b : List ℕ} (S : Sorted b) where
 
     below-place : Below (record_at b i) k d m → i < place_of b k d m
     below-place w = ltb-true i (place_of b k d m) (sym (placed k d m i h) ∙ true_below (record_at b i) k d m w)
-
-    -- the test x of the record r that was read at i tells on which side of it the place is
-    module _ {r : Record} {x : Bool} (e : r ≡ record_at b i) (f : x ≡ is_below r k d m) where
-      tested : x ≡ ltb i (place_of b k d m)
-      tested = f ∙ ap (λ (s : Record). is_below s k d m) e ∙ placed k d m i h
-
-      pub place-above : x ≡ true → i < place_of b k d m
-      place-above t = ltb-true i (place_of b k d m) (sym tested ∙ t)
-
-      pub place-upto : x ≡ false → place_of b k d m ≤ i
-      place-upto t = ltb-false i (place_of b k d m) (sym tested ∙ t)
 
   -- ---- the record with an address stands at its place
   module _ (k d m : ℕ) where

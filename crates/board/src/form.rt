@@ -31,13 +31,7 @@ fn is_shaped(n: u32, r: Record) -> bool
 pub(crate) fn is_below(r: Record, k: u32, d: u32, m: u32) -> bool
     ensures { result ≡ is_below r k d m }
 {
-    if r.w0 != k {
-        return r.w0 < k;
-    }
-    if r.w1 != d {
-        return r.w1 < d;
-    }
-    r.w2 < m
+    (r.w0, r.w1, r.w2) < (k, d, m)
 }
 
 // What stands before the first record: of kind 0, it is below every record of the table.

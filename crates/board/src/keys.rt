@@ -7,34 +7,27 @@ ghost use Rattle.board.specs.Board.{has_key, keys_in, board_key_checks, board_ch
 ghost use Rattle.board.specs.Loops.{found_keys};
 ghost use Rattle.board.specs.Sorted.{Sorted};
 
-use crate::FoundKeys;
 use crate::form::check_form;
 use crate::search::{find_key, record_count};
 use records::check_keys;
 use sharing::Setting;
 use words::{Refusal, record_at};
 
-// The members' keys as they are found, one search for each; zeros where one is missing.
+// The members' keys as they are found, one search for each, and 0 behind them; none where one is missing.
 // Internal: callers ensure that there are at most 31 members and that the records ascend.
-fn found_keys(b: &[u8], n: u32) -> FoundKeys
+fn found_keys(b: &[u8], n: u32) -> Option<[u32; 31]>
     requires { (n ≤ 31) × (Sorted b.now) }
     ensures { result ≡ found_keys n b.now }
 {
-    let mut ys = [0u32; 31];
-    let mut i: u32 = 0;
-    while i < n {
+    let mut ys = [0; 31];
+    for i in 0..n {
         let place = find_key(b, i + 1);
         if place >= record_count(b) {
-            return FoundKeys {
-                complete: false,
-                ys: [0; 31],
-            };
+            return None;
         }
-        let at = i as usize;
-        ys[at] = record_at(b, place).w3;
-        i += 1;
+        ys[i as usize] = record_at(b, place).w3;
     }
-    FoundKeys { complete: true, ys }
+    Some(ys)
 }
 
 // The members' keys, and 0 behind them.
@@ -43,8 +36,7 @@ pub fn board_keys(b: &[u8], n: u32) -> [u32; 31]
     requires { (n ≤ 31) × (all (has_key b.now) (members n) ≡ true) × (Sorted b.now) }
     ensures { result ≡ filled 31 (keys_in n b.now) }
 {
-    let found = found_keys(b, n);
-    found.ys
+    found_keys(b, n).unwrap()
 }
 
 // What the keys are refused by: 12 a key missing; 6 a bad key; 22 two equal keys.
@@ -53,13 +45,10 @@ fn check_board_keys(s: Setting, b: &[u8]) -> Result<(), Refusal>
     requires { (ProperSetting s) × (Sorted b.now) }
     ensures { result ≡ outcome (board_key_checks s b.now) tt }
 {
-    let found = found_keys(b, s.n);
-    if !found.complete {
+    let Some(ys) = found_keys(b, s.n) else {
         return Err(Refusal::Incomplete);
-    }
-    let n = s.n as usize;
-    let ys = found.ys;
-    check_keys(s.group, &ys[..n])
+    };
+    check_keys(s.group, &ys[..s.n as usize])
 }
 
 // What a board is refused by before verdicts: 3, 4, 17 and 5 its form; 12, 6 and 22 its keys.

@@ -9,10 +9,3 @@ mod search;
 pub use keys::{board_keys, check_board};
 pub use parts::{dealer_lines, lines_check, lines_of};
 pub use search::{find_key, find_opening, place_of, record_count};
-
-// Whether every member has a key, and then their keys: member i's at i - 1, and 0 behind them.
-#[derive(Clone, Copy)]
-pub struct FoundKeys {
-    pub complete: bool,
-    pub ys: [u32; 31],
-}

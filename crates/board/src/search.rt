@@ -6,7 +6,7 @@ ghost use Rattle.board.specs.Sorted.{Sorted};
 
 use crate::form::is_below;
 use records::{KEY, OPENING};
-use words::{Record, record_at};
+use words::{Record, read_record, record_at};
 
 // The number of records.
 pub fn record_count(b: &[u8]) -> usize
@@ -21,30 +21,16 @@ pub fn place_of(b: &[u8], k: u32, d: u32, m: u32) -> usize
     requires { Sorted b.now }
     ensures { result ≡ place_of b.now k d m }
 {
-    let mut low = 0;
-    let mut high = record_count(b);
-    while low < high {
-        let mid = (low + high) / 2;
-        if is_below(record_at(b, mid), k, d, m) {
-            low = mid + 1;
-        } else {
-            high = mid;
-        }
-    }
-    low
+    let (records, _) = b.as_chunks::<32>();
+    records.partition_point(|r| is_below(read_record(r), k, d, m))
 }
 
 // Whether r has the address of kind k, dealer d and member m.
+#[tactic(auto, unfolding(crate::specs::Board::is_at))]
 fn is_at(r: Record, k: u32, d: u32, m: u32) -> bool
     ensures { result ≡ is_at r k d m }
 {
-    if r.w0 != k {
-        return false;
-    }
-    if r.w1 != d {
-        return false;
-    }
-    r.w2 == m
+    r.w0 == k && r.w1 == d && r.w2 == m
 }
 
 // Where the record with the address of kind k, dealer d and member m stands, the number of records where there is none.
@@ -55,13 +41,11 @@ fn record_place(b: &[u8], k: u32, d: u32, m: u32) -> usize
 {
     let all = record_count(b);
     let at = place_of(b, k, d, m);
-    if at >= all {
-        return all;
+    if at < all && is_at(record_at(b, at), k, d, m) {
+        at
+    } else {
+        all
     }
-    if !is_at(record_at(b, at), k, d, m) {
-        return all;
-    }
-    at
 }
 
 // Where the key record of member m stands, the number of records where there is none.

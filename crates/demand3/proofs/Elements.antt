@@ -39,7 +39,6 @@ use Rattle.verdicts.specs.Shares.{Judges, judges, recovered_from, share_answer, 
 use Rattle.verdicts.specs.Verdict.{encrypted_of, secret_by, verdict_on}
 use Rattle.verdicts.specs.Added.{accepted_dealers, multiplied}
 use Rattle.verdicts.specs.Draw.{secret_value, draw_checks, board_draw_checks, draw_value, draw_in, draw_outcome, place_for, verdict_places, no_verdicts}
-use Rattle.verdicts.specs.declared.DealerVerdict.{DealerVerdict}
 use Rattle.verdicts.specs.declared.Secret.{Secret}
 use Rattle.verdicts.specs.declared.Secret.TheVariants.{Opened, Recovered}
 use Rattle.verdicts.specs.declared.Verdict.{Verdict}
@@ -137,16 +136,13 @@ no-secret : (G : Group) → SecretElement G None
 no-secret G v = ⊎_elim (λ e. absurd (false-true (cc))) (λ e. absurd (false-true (cc)))
 
 module _ (G : Group) where
-  abbrev AtPlace : DealerVerdict → Type 0
-  AtPlace w = SecretElement G w.verdict
-
-  none-places : (k : ℕ) → All AtPlace (replicate k (record { verdict = None }))
+  none-places : (k : ℕ) → All (SecretElement G) (replicate k None)
   none-places zero = tt
   none-places (suc k) = (no-secret G, none-places k)
 
-  each-place : (w : ℕ → Verdict) (n : ℕ) → ((d : ℕ) → SecretElement G (w d)) → All AtPlace (verdict_places w n)
+  each-place : (w : ℕ → Verdict) (n : ℕ) → ((d : ℕ) → SecretElement G (w d)) → All (SecretElement G) (verdict_places w n)
   unfolding verdict_places
-  each-place w n h = map-all (place_for w n) AtPlace (up_from 1 31) (All-each (up_from 1 31) (λ d. by-test d (leb d n)))
+  each-place w n h = map-all (place_for w n) (SecretElement G) (up_from 1 31) (All-each (up_from 1 31) (λ d. by-test d (leb d n)))
     where
       by-test : (d : ℕ) (x : Bool) → SecretElement G (pick x (w d) None)
       by-test d true = h d

@@ -53,7 +53,7 @@ JudgesTakeElements = TakesElements judges
 -- so whatever the board judge answers over a table and a round lies in the round's group
 pub record ElementsAnswered (T : List ℕ) (R : Round) (b : List ℕ) : Type 0 where
   pub secrets : (o : Outcome Judgement) → JudgementOf judges T R b o
-      → All (λ w. SecretElement (setting_in T R).group w.verdict) (verdicts_of o)
+      → All (SecretElement (setting_in T R).group) (verdicts_of o)
   pub draw : (v : Element) → draw_outcome judges T R b ≡ Ok v → is_element (setting_in T R).group v.0 ≡ true
 
 abbrev pub AnswersElements : Type 0

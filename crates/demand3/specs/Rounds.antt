@@ -19,7 +19,6 @@ use Rattle.verdicts.specs.Shares.{Judges, judges}
 use Rattle.verdicts.specs.Verdict.{verdict_on}
 use Rattle.verdicts.specs.Draw.{count_accepted, draw_checks, draw_value, draw_in, draw_outcome, verdict_places, no_verdicts}
 use Rattle.verdicts.specs.declared.Verdict.{Verdict}
-use Rattle.verdicts.specs.declared.DealerVerdict.{DealerVerdict}
 use Rattle.verdicts.specs.declared.Judgement.{Judgement}
 use Rattle.rulings.specs.Ruling.{JudgementOf, verdicts_of, count_of}
 use Rattle.rulings.specs.Files.{round_in, file_checks}
@@ -71,7 +70,7 @@ abbrev pub draw_over : BoardJudge → List ℕ → Round → List ℕ → Outcom
 draw_over B T R b = judged T R (λ S. B.before S b ++ B.end S b) (λ S. B.drawn S b)
 
 -- its verdicts at their places, and how many dealings it accepts
-abbrev pub places_over : BoardJudge → List ℕ → Round → List ℕ → List DealerVerdict
+abbrev pub places_over : BoardJudge → List ℕ → Round → List ℕ → List Verdict
 places_over B T R b = judged_else T R (λ S. B.before S b) (λ S. verdict_places (B.verdict S b) S.n) no_verdicts
 
 abbrev pub count_over : BoardJudge → List ℕ → Round → List ℕ → ℕ

@@ -9,7 +9,7 @@ use Rattle.board.specs.Board.{board_checks}
 use Rattle.verdicts.specs.Shares.{Judges}
 use Rattle.verdicts.specs.Verdict.{verdict_on, verdicts_on}
 use Rattle.verdicts.specs.Draw.{count_accepted, verdict_places, no_verdicts, JudgementIn}
-use Rattle.verdicts.specs.declared.DealerVerdict.{DealerVerdict}
+use Rattle.verdicts.specs.declared.Verdict.{Verdict}
 use Rattle.verdicts.specs.declared.Judgement.{Judgement}
 use Rattle.rulings.specs.Files.{round_in, setting_checks}
 use Rattle.rulings.specs.declared.Ruling.{Ruling}
@@ -44,7 +44,7 @@ JudgementOf J T R b (Err k) = FirstUnmet k (judgement_checks T R b)
 
 -- what is read off an answer: the verdicts at their places, the count of accepted dealings, and the draw. Where a check before the verdicts
 -- refuses there is no verdict, the count is 0, and there is no draw for what refuses
-abbrev pub verdicts_of : Outcome Judgement → List DealerVerdict
+abbrev pub verdicts_of : Outcome Judgement → List Verdict
 verdicts_of (Ok A) = A.verdicts
 verdicts_of (Err k) = no_verdicts
 
@@ -57,7 +57,7 @@ draw_of (Ok A) = A.draw
 draw_of (Err k) = Err k
 
 -- these are, over a table, a round and a board, by what the judges say
-abbrev pub places_on : Judges → List ℕ → Round → List ℕ → List DealerVerdict
+abbrev pub places_on : Judges → List ℕ → Round → List ℕ → List Verdict
 places_on J T R b = judged_else T R (λ S. board_checks S b) (λ S. verdict_places (verdict_on J S b) S.n) no_verdicts
 
 abbrev pub count_on : Judges → List ℕ → Round → List ℕ → ℕ

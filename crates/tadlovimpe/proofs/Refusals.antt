@@ -19,7 +19,7 @@ use Rattle.board.proofs.Numbers.{form-numbered}
 use Rattle.verdicts.specs.Draw.{draw_outcome}
 use Rattle.rulings.specs.Ruling.{refused_board}
 use Rattle.rulings.proofs.Reached.{unmet-judged}
-use Rattle.tadlovimpe.specs.Figures.{answer_of, part_of, place_of}
+use Rattle.tadlovimpe.specs.Figures.{answer_of, part_of, verdict_of}
 use Rattle.tadlovimpe.specs.Claims.{AnswerRefused, PartRefused, PartExactly, BoardRefused, BoardUnmet}
 use Rattle.std.specs.Prelude.{Ok, Err}
 use Rattle.words.specs.declared.refusal.Refusal.{Refusal}
@@ -83,5 +83,5 @@ board-unmet J T R b k u =
     record {
       number = ap (λ (x : Outcome Element). (answer_of x).refusal) (sym j.draw);
       none-counted = sym j.accepted;
-      none-judged = ap (map place_of) (sym j.verdicts);
+      none-judged = ap (map verdict_of) (sym j.verdicts);
     }

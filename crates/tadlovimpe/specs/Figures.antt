@@ -13,7 +13,6 @@ use Rattle.verdicts.specs.Draw.{draw_outcome}
 use Rattle.verdicts.specs.declared.Secret.TheVariants.{Opened, Recovered, Stuck}
 use Rattle.verdicts.specs.declared.Verdict.{Verdict}
 use Rattle.verdicts.specs.declared.Verdict.TheVariants.{None, Refused, Accepted}
-use Rattle.verdicts.specs.declared.DealerVerdict.{DealerVerdict}
 use Rattle.rulings.specs.Ruling.{count_on, places_on}
 use Rattle.tadlovimpe.specs.declared.Answer.{Answer}
 use Rattle.tadlovimpe.specs.declared.Part.{Part}
@@ -58,9 +57,6 @@ verdict_of (Accepted (Opened v)) = record { kind = 2; value = v.0 }
 verdict_of (Accepted (Recovered v)) = record { kind = 3; value = v.0 }
 verdict_of (Accepted Stuck) = record { kind = 4; value = 0 }
 
-abbrev pub place_of : DealerVerdict → VerdictFigures
-place_of p = verdict_of p.verdict
-
 -- a dealer's lines: how many bytes behind the board's start they begin, and how many bytes they are
 abbrev pub part_of : Outcome (Unit {0}) → ℕ → ℕ → Part
 part_of (Ok _) start bytes = record { refusal = 0; start = start; length = bytes }
@@ -71,9 +67,9 @@ abbrev pub part_on : List ℕ → Round → ℕ → List ℕ → Part
 part_on T R d b = part_of (lines_outcome T R d b) (lines_at T R d b) (length (lines_part T R d b))
 
 -- a board: the draw, the count of accepted dealings, and the dealers' verdicts
-abbrev pub board_of : Outcome Element → ℕ → List DealerVerdict → BoardAnswer
+abbrev pub board_of : Outcome Element → ℕ → List Verdict → BoardAnswer
 board_of draw count places =
-    record { refusal = (answer_of draw).refusal; value = (answer_of draw).value; accepted = count; verdicts = map place_of places }
+    record { refusal = (answer_of draw).refusal; value = (answer_of draw).value; accepted = count; verdicts = map verdict_of places }
 
 -- what judge_board answers, over a table, a round and a board
 abbrev pub board_on : Judges → List ℕ → Round → List ℕ → BoardAnswer

@@ -1,11 +1,11 @@
 // The operations' answers as figures.
 ghost use Rattle.std.specs.Prelude.{◌≡◌};
 ghost use Rattle.words.specs.Lists.{map};
-ghost use Rattle.tadlovimpe.specs.Figures.{number_of, answer_of, verdict_of, place_of};
+ghost use Rattle.tadlovimpe.specs.Figures.{number_of, answer_of, verdict_of};
 
 use crate::{Answer, VerdictFigures};
 use group::Element;
-use verdicts::{DealerVerdict, Secret, Verdict};
+use verdicts::{Secret, Verdict};
 use words::Refusal;
 
 // The number of a refusal, 0 where there is none.
@@ -50,8 +50,8 @@ impl From<Verdict> for VerdictFigures {
     }
 }
 
-pub(crate) fn verdicts_of(places: [DealerVerdict; 31]) -> [VerdictFigures; 31]
-    ensures { result ≡ map place_of places }
+pub(crate) fn verdicts_of(places: [Verdict; 31]) -> [VerdictFigures; 31]
+    ensures { result ≡ map verdict_of places }
 {
-    places.map(|place| VerdictFigures::from(place.verdict))
+    places.map(|v| VerdictFigures::from(v))
 }

@@ -29,17 +29,15 @@ use Rattle.rulings.specs.declared.Ruling.{Ruling}
 use Rattle.rulings.proofs.Theorems.{ruling-reached, ruling-settled, ruling-refused}
 use Rattle.text.specs.Text.{dealer_lines, refused_line, draw_line, round_line, accepted_line, text_of, report, board_text, draw_text}
 use Rattle.text.specs.Claims.{TextRefused, TableFirst, TextByGroups}
-use Rattle.text.specs.Report.{verdict_at, verdicts_at, report_from}
-use Rattle.std.specs.Prelude.{Ok, Err}
-use Rattle.words.specs.declared.refusal.Refusal.{Refusal}
+use Rattle.text.specs.Report.{verdicts_at, report_from}
 
 -- the first n of the verdicts in the array
 places-verdicts : (w : ℕ → Verdict) (n : ℕ) → n ≤ 31 → verdicts_at n (verdict_places w n) ≡ map w (members n)
 unfolding verdict_places
 places-verdicts w n h =
-    ap (map verdict_at) (take-map (place_for w n) n (up_from 1 31) ∙ ap (map (place_for w n)) (up-take 1 n 31 h))
-    ∙ map-comp (place_for w n) verdict_at (members n)
-    ∙ map_same (λ (d : ℕ). (place_for w n d).verdict) w (members n)
+    take-map (place_for w n) n (up_from 1 31)
+    ∙ ap (map (place_for w n)) (up-take 1 n 31 h)
+    ∙ map_same (place_for w n) w (members n)
     (All-to (members n) (λ d s. pick_true (leb d n) (w d) None (le-leb d n (omega (arith, s.1)))) (up-within 1 n (suc n) (omega arith)))
 
 -- ---- the report

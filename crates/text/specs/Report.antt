@@ -1,19 +1,13 @@
 -- The report as it is written from the board judge's answer.
 use Rattle.std.specs.Prelude.{List, ◌++◌, ℕ, take}
-use Rattle.words.specs.Lists.{map}
 use Rattle.sharing.specs.declared.Setting.{Setting}
 use Rattle.verdicts.specs.declared.Verdict.{Verdict}
-use Rattle.verdicts.specs.declared.DealerVerdict.{DealerVerdict}
 use Rattle.verdicts.specs.declared.Judgement.{Judgement}
 use Rattle.text.specs.Text.{dealer_lines, draw_line, round_line, accepted_line}
 
--- the verdict that a place of its array holds
-abbrev pub verdict_at : DealerVerdict → Verdict
-verdict_at w = w.verdict
-
 -- the verdicts of the first n places
-abbrev pub verdicts_at : ℕ → List DealerVerdict → List Verdict
-verdicts_at n ws = map verdict_at (take n ws)
+abbrev pub verdicts_at : ℕ → List Verdict → List Verdict
+verdicts_at n ws = take n ws
 
 -- the four parts of the report, in their order
 unfoldable pub report_from : Setting → Judgement → List ℕ

@@ -6,17 +6,17 @@ ghost use Rattle.text.specs.Report.{verdicts_at, report_from};
 
 use crate::line::{put_dealer, put_draw, put_line, put_round};
 use sharing::Setting;
-use verdicts::{DealerVerdict, Judgement};
+use verdicts::{Judgement, Verdict};
 
 // Writes the lines of the dealers 1 to n from `at` on, and answers the place behind them.
 // Internal: callers ensure that n is at most 31, and room for the lines.
-fn put_dealers(out: &mut [u8], at: usize, n: u32, verdicts: [DealerVerdict; 31]) -> usize
+fn put_dealers(out: &mut [u8], at: usize, n: u32, verdicts: [Verdict; 31]) -> usize
     requires { (n ≤ 31) × (Room at (dealer_lines 1 (verdicts_at n verdicts)) out.old) }
     ensures { Written at (dealer_lines 1 (verdicts_at n verdicts)) out.old out.new result }
 {
     let mut next = at;
     for i in 0..n {
-        next = put_dealer(out, next, i + 1, verdicts[i as usize].verdict);
+        next = put_dealer(out, next, i + 1, verdicts[i as usize]);
     }
     next
 }

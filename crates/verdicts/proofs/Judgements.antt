@@ -12,13 +12,13 @@ use Rattle.verdicts.specs.Shares.{Judges, recovered_from}
 use Rattle.verdicts.specs.Verdict.{verdict_on}
 use Rattle.verdicts.specs.Added.{added_by}
 use Rattle.verdicts.specs.Draw.{end_checks, reached_draw, JudgementIn}
-use Rattle.verdicts.specs.declared.DealerVerdict.{DealerVerdict}
+use Rattle.verdicts.specs.declared.Verdict.{Verdict}
 use Rattle.verdicts.proofs.Turns.{DealersAbove, all-verdicts, all-counted, all-stuck, all-secrets}
 
 abbrev added_value : Judges → Setting → List ℕ → Element
 added_value J S b = record { 0 = recovered_from S.group b (take S.t (added_by J S b)) }
 
-pub above-judged : (J : Judges) (S : Setting) (b : List ℕ) (d : ℕ) (verdicts : List DealerVerdict) (accepted : ℕ) (stuck : Bool) (product : Element)
+pub above-judged : (J : Judges) (S : Setting) (b : List ℕ) (d : ℕ) (verdicts : List Verdict) (accepted : ℕ) (stuck : Bool) (product : Element)
     → DealersAbove (verdict_on J S b) S.group.p S.n d verdicts accepted stuck product.0 → d ≡ 0
     → (a : Outcome Element)
     → a ≡ outcome (end_checks S.t accepted stuck (length (added_by J S b))) (pick stuck (added_value J S b) product)

@@ -2,16 +2,17 @@
 -- first. And what added shares are judged with.
 use mathlib.Core.Path.{◌≡◌, refl, sym, ap, ◌∙◌}
 use mathlib.Core.Bool.{Bool, true, false, ◌&&◌}
-use mathlib.Core.List.{List, ◌∷◌}
+use mathlib.Core.List.{List, [], ◌∷◌, ◌++◌}
 use mathlib.Core.Logic.{inr}
-use Prim.Native.Nat.{ℕ, ◌-◌, ◌*◌, ◌<◌, ◌≤◌}
+use Prim.Native.Nat.{ℕ, zero, suc, ◌-◌, ◌*◌, ◌<◌, ◌≤◌}
 use native.Mathlib.Omega.{arith}
 use borrow.Author.Tests.{eqb-true, ne_eqb}
-use lib.ListN.{length, get_or, take, replicate, length-append, length-take, length-replicate}
-use lib.Seq.{get_or-take}
+use lib.ListN.{length, take, drop, replicate}
+use lib.Seq.{take_all, drop_at}
+use Rattle.std.proofs.lemmas.List.{drop-replicate}
 use lib.Dec.{eqb}
 use Rattle.words.specs.Choice.{pick}
-use Rattle.words.specs.Lists.{map, all, filled, entry}
+use Rattle.words.specs.Lists.{map, all, up_from, filled, entry}
 use Rattle.words.specs.Checks.{Outcome, Met}
 use Rattle.words.proofs.Lists.{All-to, map-all, map-length, map_same, up-length}
 use Rattle.words.proofs.Tests.{true-all, and-true}
@@ -35,21 +36,37 @@ use Rattle.verdicts.specs.Verdict.{dealing_answer, is_accepted, secret_by, verdi
 use Rattle.verdicts.specs.Posted.{SharesOn}
 use Rattle.verdicts.specs.Gathered.{times_accepted}
 use Rattle.verdicts.specs.Added.{accepted_dealers, multiplied_at, multiplied}
+use Rattle.verdicts.specs.declared.Secret.{Secret}
 use Rattle.verdicts.specs.declared.Verdict.{Verdict}
 use Rattle.verdicts.specs.declared.Verdict.TheVariants.{None, Refused, Accepted}
 use Rattle.verdicts.proofs.Turns.{dealers_above, dealers-none, dealers-more, dealers-all}
 use Rattle.std.specs.Prelude.{Ok, Err, is_ok}
 use Rattle.words.specs.declared.refusal.Refusal.TheVariants.{Incomplete}
 
-filled-size : (m : ℕ) (xs : List ℕ) → length xs ≤ m → length (filled m xs) ≡ m
+-- as many numbers in the place of the first n of an array
+refilled : (m n : ℕ) (xs ys : List ℕ) {l : List ℕ} → length xs ≡ n → length ys ≡ n → l ≡ filled m xs → ys ++ drop n l ≡ filled m ys
 unfolding filled
-filled-size m xs h = length-append xs (replicate (m - length xs) 0) ∙ omega (arith, length-replicate {A = ℕ} (m - length xs) 0)
+refilled m n xs ys f g e =
+    let s : length xs ≡ length ys = omega arith in
+    ap (λ (r : List ℕ). ys ++ drop n r) e
+    ∙ ap (λ (r : List ℕ). ys ++ r) (drop_at xs (replicate (m - length xs) 0) n f)
+    ∙ ap (λ (k : ℕ). ys ++ replicate (m - k) 0) s
+
+-- and in an array of zeros
+over-zeros : (m n : ℕ) (xs : List ℕ) → length xs ≡ n → xs ++ drop n (replicate m 0) ≡ filled m xs
+unfolding filled
+over-zeros m n xs f = ap (λ (r : List ℕ). xs ++ r) (drop-replicate {X = ℕ} n m 0 ∙ ap (λ (k : ℕ). replicate (m - k) 0) (sym f))
 
 -- ---- accepted by the verdict
 abbrev pub accepts : Verdict → Bool
 accepts None = false
 accepts (Refused k) = false
 accepts (Accepted s) = true
+
+pub not-accepted : (v : Verdict) → ((s : Secret) → v ≡ Accepted s → ⊥) → accepts v ≡ false
+not-accepted None n = refl
+not-accepted (Refused k) n = refl
+not-accepted (Accepted s) n = absurd (n s refl)
 
 pub verdict-accepts : (J : Judges) (S : Setting) (b : List ℕ) (d : ℕ) → 1 ≤ S.n → accepts (verdict_on J S b d) ≡ is_accepted J S b d
 unfolding verdict_on is_accepted
@@ -73,15 +90,13 @@ module _ (S : Setting) (P : ProperSetting S) (b : List ℕ) (d : ℕ) {v : Verdi
   abbrev part : List ℕ → Bool → List ℕ
   part products x = map (λ i. pick x (mul S.group.p (Y_in (lines_of b d) i) (entry products i)) (entry products i)) (members S.n)
 
-  pub part-told : {x : Bool} → accepts v ≡ x → (products : List ℕ) → filled 31 (part products x) ≡ filled 31 (map (times_accepted judges S b d (entry products)) (members S.n))
-  part-told f products = ap (λ (x : Bool). filled 31 (part products x)) (sym f ∙ told)
+  pub part-told : {x : Bool} → accepts v ≡ x → (products : List ℕ) → part products x ≡ map (times_accepted judges S b d (entry products)) (members S.n)
+  part-told f products = ap (part products) (sym f ∙ told)
 
-  pub part_none : accepts v ≡ false → (products : List ℕ) → products ≡ filled 31 (take S.n products)
-      → products ≡ filled 31 (map (times_accepted judges S b d (entry products)) (members S.n))
-  part_none f products z = z ∙ ap (filled 31) (entries-front products S.n (held-size products z)) ∙ part-told f products
-    where
-      held-size : (l : List ℕ) → l ≡ filled 31 (take S.n l) → S.n ≤ length l
-      held-size l w = omega (arith, filled-size 31 (take S.n l) (omega (arith, length-take S.n l, P.n-most)), ap length w, P.n-most)
+  pub part_none : accepts v ≡ false → (products : List ℕ) → length products ≡ S.n
+      → products ≡ map (times_accepted judges S b d (entry products)) (members S.n)
+  part_none f products h =
+      sym (take_all S.n products (omega arith)) ∙ entries-front products S.n (omega arith) ∙ part-told f products
 
   -- his n lines
   pub part-size : Met (board_checks S b) → accepts v ≡ true → length (lines_of b d) ≡ 32 * S.n
@@ -112,33 +127,47 @@ module _ (J : Judges) (S : Setting) (b : List ℕ) where
     pub within : d ≤ S.n
     pub held : products ≡ filled 31 (held_for (dealers_above S.n d))
 
-  pub products-start : {products : List ℕ} → products ≡ filled 31 (map (λ i. 1) (members S.n)) → ProductsAbove S.n products
-  products-start e = record { within = omega arith; held = e ∙ ap (λ (ds : List ℕ). filled 31 (held_for ds)) (sym (dealers-none S.n)) }
+  -- 1 for each member
+  each-one : (i n : ℕ) → replicate n 1 ≡ map (product_at []) (up_from i n)
+  each-one i zero = refl
+  each-one i (suc n) = ap (λ (l : List ℕ). 1 ∷ l) (each-one (suc i) n)
+
+  pub products-start : {ones : List ℕ} → ones ≡ replicate S.n 1 → ProductsAbove S.n (ones ++ drop S.n (replicate 31 0))
+  products-start {ones} e =
+      let none : ones ≡ held_for [] = e ∙ each-one 1 S.n in
+      record {
+        within = omega arith;
+        held = over-zeros 31 S.n ones (ap length none ∙ map-length (product_at []) (members S.n) ∙ up-length 1 S.n) ∙ ap (filled 31) none ∙ ap (λ (ds : List ℕ). filled 31 (held_for ds)) (sym (dealers-none S.n));
+      }
 
   module _ (d : ℕ) (products : List ℕ) (T : ProductsAbove d products) where
     front : take S.n products ≡ held_for (dealers_above S.n d)
     front = members-front (product_at (dealers_above S.n d)) S.n T.held
 
-    pub products-filled : products ≡ filled 31 (take S.n products)
-    products-filled = T.held ∙ ap (filled 31) (sym front)
+    -- a product for each member
+    pub front-size : length (take S.n products) ≡ S.n
+    front-size = ap length front ∙ map-length (product_at (dealers_above S.n d)) (members S.n) ∙ up-length 1 S.n
 
-    at-member : (i : ℕ) → 1 ≤ i → i ≤ S.n → entry products i ≡ product_at (dealers_above S.n d) i
-    unfolding entry
+    at-member : (i : ℕ) → 1 ≤ i → i ≤ S.n → entry (take S.n products) i ≡ product_at (dealers_above S.n d) i
     at-member i h l =
-        sym (get_or-take S.n products (i - 1) 0 (omega arith))
-        ∙ ap (λ (l : List ℕ). get_or l (i - 1) 0) front
+        ap (λ (l : List ℕ). entry l i) front
         ∙ member-entry (product_at (dealers_above S.n d)) S.n i h l
 
-    pub products-next : 0 < d → {r : List ℕ} → r ≡ filled 31 (map (times_accepted J S b d (entry products)) (members S.n)) → ProductsAbove (d - 1) r
-    products-next h e =
-        let each = map_same (times_accepted J S b d (entry products)) (product_at (d ∷ dealers_above S.n d)) (members S.n)
-        (each-members (λ i. times_accepted J S b d (entry products) i ≡ product_at (d ∷ dealers_above S.n d) i) S.n
+    pub products-next : 0 < d → {r : List ℕ} → r ≡ map (times_accepted J S b d (entry (take S.n products))) (members S.n)
+        → ProductsAbove (d - 1) (r ++ drop S.n products)
+    products-next h {r} e =
+        let each = map_same (times_accepted J S b d (entry (take S.n products))) (product_at (d ∷ dealers_above S.n d)) (members S.n)
+        (each-members (λ i. times_accepted J S b d (entry (take S.n products)) i ≡ product_at (d ∷ dealers_above S.n d) i) S.n
         (λ i k l.
         ap (λ (x : ℕ). pick (is_accepted J S b d) (mul S.group.p (Y_in (lines_of b d) i) x) x) (at-member i k l)
         ∙ one_more d (dealers_above S.n d) i)) in
+        let held : r ≡ held_for (dealers_above S.n (d - 1)) = e ∙ each ∙ ap held_for (sym (dealers-more S.n d h T.within)) in
         record {
           within = omega (arith, T.within);
-          held = e ∙ ap (filled 31) (each ∙ ap held_for (sym (dealers-more S.n d h T.within)));
+          held =
+              refilled 31 S.n (held_for (dealers_above S.n d)) r (map-length (product_at (dealers_above S.n d)) (members S.n) ∙ up-length 1 S.n)
+              (ap length held ∙ map-length (product_at (dealers_above S.n (d - 1))) (members S.n) ∙ up-length 1 S.n) T.held
+              ∙ ap (filled 31) held;
         }
 
     pub products-all : d ≡ 0 → products ≡ filled 31 (multiplied J S b Y_in)

@@ -15,7 +15,6 @@ use Rattle.verdicts.specs.Verdict.{is_stuck}
 use Rattle.verdicts.specs.Draw.{count_one, count_accepted, any_stuck, times_secret, secrets_product, place_for, verdict_places, no_verdicts}
 use Rattle.verdicts.specs.declared.Verdict.{Verdict}
 use Rattle.verdicts.specs.declared.Verdict.TheVariants.{None, Refused, Accepted}
-use Rattle.verdicts.specs.declared.DealerVerdict.{DealerVerdict}
 
 pub count_most : (v : Verdict) → count_one v ≤ 1
 count_most None = omega arith
@@ -55,15 +54,12 @@ module _ (w : ℕ → Verdict) (n : ℕ) where
   above-all d e = ap (map w) (dealers-all n d e)
 
 -- ---- the places
-abbrev held : Verdict → DealerVerdict
-held v = record { verdict = v }
-
 module _ (w : ℕ → Verdict) (n : ℕ) where
   -- behind the first n there is no verdict
-  behind : (k i m : ℕ) → n < i + k → drop k (replicate m (held None)) ≡ drop k (map (place_for w n) (up_from i m))
+  behind : (k i m : ℕ) → n < i + k → drop k (replicate m None) ≡ drop k (map (place_for w n) (up_from i m))
   behind zero i zero h = refl
   behind zero i (suc m) h =
-      let e : place_for w n i ≡ held None = ap (λ (x : Bool). held (pick x (w i) None)) (lt-leb i n (omega arith)) in
+      let e : place_for w n i ≡ None = ap (λ (x : Bool). pick x (w i) None) (lt-leb i n (omega arith)) in
       λ j. sym e j ∷ behind zero (suc i) m (omega arith) j
   behind (suc k) i zero h = refl
   behind (suc k) i (suc m) h = behind k (suc i) m (omega arith)
@@ -77,29 +73,29 @@ module _ (w : ℕ → Verdict) (n : ℕ) where
   places-length = map-length (place_for w n) (up_from 1 31) ∙ up-length 1 31
 
   -- the place of the dealer d
-  pub place-of : (d : ℕ) → 0 < d → d ≤ n → n ≤ 31 → get_or (verdict_places w n) (d - 1) (held None) ≡ held (w d)
+  pub place-of : (d : ℕ) → 0 < d → d ≤ n → n ≤ 31 → get_or (verdict_places w n) (d - 1) None ≡ w d
   unfolding verdict_places
   place-of d h u v =
       let e : 1 + (d - 1) ≡ d = omega arith in
-      map_at (place_for w n) (up_from 1 31) (d - 1) 0 (held None) (omega arith)
+      map_at (place_for w n) (up_from 1 31) (d - 1) 0 None (omega arith)
       ∙ ap (place_for w n) (up_at 1 31 (d - 1) (omega arith) ∙ e)
-      ∙ ap (λ (x : Bool). held (pick x (w d) None)) (le-leb d n u)
+      ∙ ap (λ (x : Bool). pick x (w d) None) (le-leb d n u)
 
-  place_at : (d : ℕ) → 0 < d → d ≤ n → n ≤ 31 → drop (d - 1) (verdict_places w n) ≡ held (w d) ∷ drop d (verdict_places w n)
+  place_at : (d : ℕ) → 0 < d → d ≤ n → n ≤ 31 → drop (d - 1) (verdict_places w n) ≡ w d ∷ drop d (verdict_places w n)
   place_at d h u v =
-      drop-back (verdict_places w n) d (held None) h (omega (arith, places-length))
-      ∙ ap (λ (x : DealerVerdict). x ∷ drop d (verdict_places w n)) (place-of d h u v)
+      drop-back (verdict_places w n) d None h (omega (arith, places-length))
+      ∙ ap (λ (x : Verdict). x ∷ drop d (verdict_places w n)) (place-of d h u v)
 
-  places-next : (d : ℕ) (l : List DealerVerdict) (x : DealerVerdict) → 0 < d → d ≤ n → n ≤ 31 → length l ≡ 31 → drop d l ≡ drop d (verdict_places w n) → x ≡ held (w d)
+  places-next : (d : ℕ) (l : List Verdict) (x : Verdict) → 0 < d → d ≤ n → n ≤ 31 → length l ≡ 31 → drop d l ≡ drop d (verdict_places w n) → x ≡ w d
       → drop (d - 1) (set l (d - 1) x) ≡ drop (d - 1) (verdict_places w n)
   places-next d l x h u v z e f =
-      drop-back (set l (d - 1) x) d (held None) h (omega (arith, length-set l (d - 1) x, z))
-      ∙ (λ i. get_or-set_same l (d - 1) x (held None) (omega (arith, z)) i ∷ drop-set-lt d l (d - 1) x (omega arith) i)
+      drop-back (set l (d - 1) x) d None h (omega (arith, length-set l (d - 1) x, z))
+      ∙ (λ i. get_or-set_same l (d - 1) x None (omega (arith, z)) i ∷ drop-set-lt d l (d - 1) x (omega arith) i)
       ∙ (λ i. f i ∷ e i)
       ∙ sym (place_at d h u v)
 
 -- ---- the loop
-pub record DealersAbove (w : ℕ → Verdict) (p n d : ℕ) (verdicts : List DealerVerdict) (accepted : ℕ) (stuck : Bool) (product : ℕ) : Type 0 where
+pub record DealersAbove (w : ℕ → Verdict) (p n d : ℕ) (verdicts : List Verdict) (accepted : ℕ) (stuck : Bool) (product : ℕ) : Type 0 where
   pub within : d ≤ n
   pub size : length verdicts ≡ 31
   pub filled : drop d verdicts ≡ drop d (verdict_places w n)
@@ -120,17 +116,18 @@ above-start w p n =
       few = omega arith;
     }
 
-module _ (w : ℕ → Verdict) (p n d : ℕ) (verdicts : List DealerVerdict) (accepted : ℕ) (stuck : Bool) (product : ℕ) (T : DealersAbove w p n d verdicts accepted stuck product) where
+module _ (w : ℕ → Verdict) (p n d : ℕ) (verdicts : List Verdict) (accepted : ℕ) (stuck : Bool) (product : ℕ) (T : DealersAbove w p n d verdicts accepted stuck product) where
   pub above-next : 0 < d → n ≤ 31 → (v : Verdict) (c : ℕ) (y : Bool) (x : ℕ)
       → v ≡ w d → c ≡ count_one v → y ≡ pick (is_stuck v) true stuck → x ≡ times_secret p v product
-      → DealersAbove w p n (d - 1) (set verdicts (d - 1) (record { verdict = v })) (c + accepted) y x
+      → DealersAbove w p n (d - 1) (set verdicts (d - 1) v) (accepted + c) y x
   above-next h l v c y x e ec ey ex =
       let m = above_more w n d h T.within in
+      let turned : accepted + c ≡ c + accepted = omega arith in
       record {
         within = omega (arith, T.within);
-        size = length-set verdicts (d - 1) (record { verdict = v }) ∙ T.size;
-        filled = places-next w n d verdicts (record { verdict = v }) h T.within l T.size T.filled (λ j. record { verdict = e j });
-        count = (λ j. ec j + T.count j) ∙ ap (λ (u : Verdict). count_one u + count_accepted (map w (dealers_above n d))) e ∙ ap count_accepted (sym m);
+        size = length-set verdicts (d - 1) v ∙ T.size;
+        filled = places-next w n d verdicts v h T.within l T.size T.filled e;
+        count = turned ∙ (λ j. ec j + T.count j) ∙ ap (λ (u : Verdict). count_one u + count_accepted (map w (dealers_above n d))) e ∙ ap count_accepted (sym m);
         any = ey ∙ (λ j. pick (is_stuck (e j)) true (T.any j)) ∙ ap any_stuck (sym m);
         whole = ex ∙ (λ j. times_secret p (e j) (T.whole j)) ∙ ap (secrets_product p) (sym m);
         few = omega (arith, ec, count_most v, T.few, T.within);

@@ -16,7 +16,6 @@ use Rattle.verdicts.specs.declared.Secret.{Secret}
 use Rattle.verdicts.specs.declared.Secret.TheVariants.{Opened, Recovered, Stuck}
 use Rattle.verdicts.specs.declared.Verdict.{Verdict}
 use Rattle.verdicts.specs.declared.Verdict.TheVariants.{None, Refused, Accepted}
-use Rattle.verdicts.specs.declared.DealerVerdict.{DealerVerdict}
 use Rattle.verdicts.specs.declared.Judgement.{Judgement}
 use Rattle.words.specs.declared.refusal.Refusal.TheVariants.{StillStuck, TooFew}
 
@@ -82,15 +81,15 @@ draw_outcome J T R b = judged T R (λ S. board_draw_checks J S b) (λ S. draw_va
 
 -- ---- the board judge's answer
 -- the places of 31 dealers, of whom the first n have a verdict
-abbrev pub place_for : (ℕ → Verdict) → ℕ → ℕ → DealerVerdict
-place_for w n d = record { verdict = pick (leb d n) (w d) None }
+abbrev pub place_for : (ℕ → Verdict) → ℕ → ℕ → Verdict
+place_for w n d = pick (leb d n) (w d) None
 
-unfoldable pub verdict_places : (ℕ → Verdict) → ℕ → List DealerVerdict
+unfoldable pub verdict_places : (ℕ → Verdict) → ℕ → List Verdict
 verdict_places w n = map (place_for w n) (up_from 1 31)
 
 -- no verdict
-abbrev pub no_verdicts : List DealerVerdict
-no_verdicts = replicate 31 (record { verdict = None })
+abbrev pub no_verdicts : List Verdict
+no_verdicts = replicate 31 None
 
 -- where verdicts are reached
 pub record JudgementIn (J : Judges) (S : Setting) (b : List ℕ) (A : Judgement) : Type 0 where

@@ -13,90 +13,58 @@ ghost use Rattle.verdicts.specs.Gathered.{times_accepted};
 ghost use Rattle.verdicts.specs.Added.{multiplied, added_by};
 ghost use Rattle.verdicts.specs.Draw.{verdict_places};
 
+use crate::Verdict;
 use crate::shares::from_lowest;
-use crate::{DealerVerdict, MemberProducts, Verdict};
 use board::lines_of;
 use group::{Element, Group};
 use share::added_form;
 use sharing::Setting;
 use words::{Refusal, record_at};
 
-// 1 for each of n members, and 0 behind them. Internal: callers ensure at most 31 members.
-fn ones(n: usize) -> MemberProducts
-    requires { n ≤ 31 }
-    ensures { result.of ≡ filled 31 (map (λ i. 1) (members n)) }
+// Multiplies the product of each member by the encrypted share in his line.
+// Internal: callers ensure that p is not 0, and a line for each product.
+fn times_lines(gr: Group, lines: &[u8], products: &mut [u32])
+    requires { (0 < gr.p) × (length lines.now ≡ 32 * length products.old) }
+    ensures { products.new ≡ map (λ i. mul gr.p (Y_in lines.now i) (entry products.old i)) (members (length products.old)) }
 {
-    let mut of = [0u32; 31];
-    let mut i = 0;
-    while i < n {
-        of[i] = 1;
-        i += 1;
-    }
-    MemberProducts { of }
-}
-
-// The products of n members, each times the encrypted share in his line, and 0 behind them.
-// Internal: callers ensure that p is not 0, at most 31 members, and n lines.
-fn times_lines(gr: Group, n: usize, lines: &[u8], products: MemberProducts) -> MemberProducts
-    requires { (0 < gr.p) × (n ≤ 31) × (length lines.now ≡ 32 * n) }
-    ensures { result.of ≡ filled 31 (map (λ i. mul gr.p (Y_in lines.now i) (entry products.of i)) (members n)) }
-{
-    let before = products.of;
-    let mut of = [0u32; 31];
-    let mut i = 0;
-    while i < n {
+    for (i, product) in products.iter_mut().enumerate() {
         let encrypted = Element(record_at(lines, i).w4);
-        of[i] = encrypted.times(gr, Element(before[i])).0;
-        i += 1;
+        *product = encrypted.times(gr, Element(*product)).0;
     }
-    MemberProducts { of }
 }
 
-// The products of the members, times the encrypted shares in the lines of the dealer d where his dealing is accepted.
-// Internal: callers ensure that the setting is proper, that verdicts are reached, that v is his verdict, and 0 behind the products.
-fn times_dealing(
-    s: Setting,
-    b: &[u8],
-    d: u32,
-    v: Verdict,
-    products: MemberProducts,
-) -> MemberProducts
-    requires { (ProperSetting s) × (Met (board_checks s b.now)) × (v ≡ verdict_on judges s b.now d) × (products.of ≡ filled 31 (take s.n products.of)) }
-    ensures { result.of ≡ filled 31 (map (times_accepted judges s b.now d (entry products.of)) (members s.n)) }
+// Multiplies the products of the members by the encrypted shares in the lines of the dealer d where his dealing is accepted.
+// Internal: callers ensure that the setting is proper, that verdicts are reached, that v is his verdict, and a product for each member.
+fn times_dealing(s: Setting, b: &[u8], d: u32, v: Verdict, products: &mut [u32])
+    requires { (ProperSetting s) × (Met (board_checks s b.now)) × (v ≡ verdict_on judges s b.now d) × (length products.old ≡ s.n) }
+    ensures { products.new ≡ map (times_accepted judges s b.now d (entry products.old)) (members s.n) }
 {
-    match v {
-        Verdict::None => products,
-        Verdict::Refused(_) => products,
-        Verdict::Accepted(_) => times_lines(s.group, s.n as usize, lines_of(b, d), products),
+    if let Verdict::Accepted(_) = v {
+        times_lines(s.group, lines_of(b, d), products);
     }
 }
 
 // The encrypted shares of all accepted dealings, multiplied member by member, from the last dealer to the first, and 0 behind them.
 // Internal: callers ensure that the setting is proper, that verdicts are reached, and that these are the dealers' verdicts.
-fn multiplied_shares(s: Setting, b: &[u8], verdicts: [DealerVerdict; 31]) -> MemberProducts
+fn multiplied_shares(s: Setting, b: &[u8], verdicts: [Verdict; 31]) -> [u32; 31]
     requires { (ProperSetting s) × (Met (board_checks s b.now)) × (verdicts ≡ verdict_places (verdict_on judges s b.now) s.n) }
-    ensures { result.of ≡ filled 31 (multiplied judges s b.now Y_in) }
+    ensures { result ≡ filled 31 (multiplied judges s b.now Y_in) }
 {
-    let mut products = ones(s.n as usize);
-    let mut d = s.n;
-    while d > 0 {
-        let at = d as usize - 1;
-        let held = verdicts[at];
-        let v = held.verdict;
-        products = times_dealing(s, b, d, v, products);
-        d -= 1;
+    let n = s.n as usize;
+    let mut products = [0; 31];
+    products[..n].fill(1);
+    for d in (1..=s.n).rev() {
+        times_dealing(s, b, d, verdicts[d as usize - 1], &mut products[..n]);
     }
     products
 }
 
 // The draw from the t lowest members with accepted added shares, refused by 13 where there are fewer.
 // Internal: callers ensure that the setting is proper, that verdicts are reached, and that these are the dealers' verdicts.
-pub(crate) fn added_draw(s: Setting, b: &[u8], verdicts: [DealerVerdict; 31]) -> Result<Element, Refusal>
+pub(crate) fn added_draw(s: Setting, b: &[u8], verdicts: [Verdict; 31]) -> Result<Element, Refusal>
     requires { (ProperSetting s) × (Met (board_checks s b.now)) × (verdicts ≡ verdict_places (verdict_on judges s b.now) s.n) }
     ensures { result ≡ from_lowest s b.now (added_by judges s b.now) }
 {
-    let n = s.n as usize;
     let products = multiplied_shares(s, b, verdicts);
-    let encrypted = products.of;
-    from_lowest(s, added_form(), b, &encrypted[..n])
+    from_lowest(s, added_form(), b, &products[..s.n as usize])
 }

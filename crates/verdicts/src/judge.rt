@@ -11,7 +11,7 @@ ghost use Rattle.verdicts.specs.Draw.{count_one, secret_value, times_secret, end
 
 use crate::added::added_draw;
 use crate::verdicts::verdict;
-use crate::{DealerVerdict, Judgement, Secret, Verdict};
+use crate::{Judgement, Secret, Verdict};
 use board::board_keys;
 use group::{Element, Group};
 use sharing::Setting;
@@ -22,8 +22,7 @@ fn count_one(v: Verdict) -> u32
     ensures { result ≡ count_one v }
 {
     match v {
-        Verdict::None => 0,
-        Verdict::Refused(_) => 0,
+        Verdict::None | Verdict::Refused(_) => 0,
         Verdict::Accepted(_) => 1,
     }
 }
@@ -32,15 +31,7 @@ fn count_one(v: Verdict) -> u32
 fn any_stuck(v: Verdict, before: bool) -> bool
     ensures { result ≡ pick (is_stuck v) true before }
 {
-    match v {
-        Verdict::None => before,
-        Verdict::Refused(_) => before,
-        Verdict::Accepted(s) => match s {
-            Secret::Opened(_) => before,
-            Secret::Recovered(_) => before,
-            Secret::Stuck => true,
-        },
-    }
+    before || matches!(v, Verdict::Accepted(Secret::Stuck))
 }
 
 // A secret's value, 1 for a stuck one.
@@ -48,8 +39,7 @@ fn secret_value(s: Secret) -> Element
     ensures { result.0 ≡ secret_value s }
 {
     match s {
-        Secret::Opened(v) => v,
-        Secret::Recovered(v) => v,
+        Secret::Opened(v) | Secret::Recovered(v) => v,
         Secret::Stuck => Element(1),
     }
 }
@@ -61,8 +51,7 @@ fn times_secret(gr: Group, v: Verdict, x: Element) -> Element
     ensures { result.0 ≡ times_secret gr.p v x.0 }
 {
     match v {
-        Verdict::None => x,
-        Verdict::Refused(_) => x,
+        Verdict::None | Verdict::Refused(_) => x,
         Verdict::Accepted(s) => secret_value(s).times(gr, x),
     }
 }
@@ -73,7 +62,7 @@ fn times_secret(gr: Group, v: Verdict, x: Element) -> Element
 fn draw_answer(
     s: Setting,
     b: &[u8],
-    verdicts: [DealerVerdict; 31],
+    verdicts: [Verdict; 31],
     accepted: u32,
     stuck: bool,
     product: Element,
@@ -99,22 +88,16 @@ pub fn all_verdicts(s: Setting, b: &[u8]) -> Judgement
 {
     let n = s.n as usize;
     let ys = board_keys(b, s.n);
-    let none = DealerVerdict {
-        verdict: Verdict::None,
-    };
-    let mut verdicts = [none; 31];
+    let mut verdicts = [Verdict::None; 31];
     let mut accepted: u32 = 0;
     let mut stuck = false;
     let mut product = Element(1);
-    let mut d = s.n;
-    while d > 0 {
+    for d in (1..=s.n).rev() {
         let v = verdict(s, &ys[..n], b, d);
-        accepted = count_one(v) + accepted;
+        accepted += count_one(v);
         stuck = any_stuck(v, stuck);
         product = times_secret(s.group, v, product);
-        d -= 1;
-        let at = d as usize;
-        verdicts[at] = DealerVerdict { verdict: v };
+        verdicts[d as usize - 1] = v;
     }
     Judgement {
         verdicts,

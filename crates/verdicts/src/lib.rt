@@ -25,12 +25,6 @@ pub enum Verdict {
     Accepted(Secret),
 }
 
-// A dealer's verdict, as an array holds it.
-#[derive(Clone, Copy)]
-pub struct DealerVerdict {
-    pub verdict: Verdict,
-}
-
 // The lowest members with accepted shares, and these shares: two arrays with 0 behind them, and how many there are.
 #[derive(Clone, Copy)]
 pub struct GatheredShares {
@@ -39,17 +33,11 @@ pub struct GatheredShares {
     pub count: usize,
 }
 
-// A product for each member, member i's at i - 1, and 0 behind them.
-#[derive(Clone, Copy)]
-pub struct MemberProducts {
-    pub of: [u32; 31],
-}
-
 // Every dealer's verdict (dealer d at d - 1, those above n None), the count of accepted dealings, and the draw: the beacon's output,
 // or the number of the refusal.
 #[derive(Clone, Copy)]
 pub struct Judgement {
-    pub verdicts: [DealerVerdict; 31],
+    pub verdicts: [Verdict; 31],
     pub accepted: u32,
     pub draw: Result<Element, Refusal>,
 }

@@ -44,10 +44,7 @@ fn opened_at(s: Setting, b: &[u8], at: usize, vs: &[u32]) -> bool
         return false;
     }
     let u = Exponent(record_at(b, at).w3);
-    if !is_exponent(s.group, u) {
-        return false;
-    }
-    opens(s, vs, u)
+    is_exponent(s.group, u) && opens(s, vs, u)
 }
 
 // How the secret of an accepted dealing came: a right opening counts first.
@@ -57,11 +54,9 @@ fn secret(s: Setting, b: &[u8], d: u32, figures: Columns) -> Secret
     ensures { result ≡ secret_by judges s b.now d }
 {
     let n = s.n as usize;
-    let vs = figures.vs;
     let at = find_opening(b, d);
-    if !opened_at(s, b, at, &vs[..n]) {
-        let encrypted = figures.encrypted;
-        return from_shares(s, b, d, &encrypted[..n]);
+    if !opened_at(s, b, at, &figures.vs[..n]) {
+        return from_shares(s, b, d, &figures.encrypted[..n]);
     }
     let u = Exponent(record_at(b, at).w3);
     Secret::Opened(s.group.h.power(s.group, u))

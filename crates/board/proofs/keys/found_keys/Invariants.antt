@@ -1,7 +1,6 @@
 -- `found_keys` meets its contract. The loop's invariant: the members after the first i have keys exactly if all have, and the array holds
 -- the keys of the first i.
 use mathlib.Core.Path.{◌≡◌}
-use Prim.Native.Nat.{◌-◌, ◌≤◌}
 use lib.ListN.{drop}
 use Rattle.words.specs.Lists.{all, filled}
 use Rattle.sharing.specs.Setting.{members}
@@ -10,7 +9,7 @@ use Rattle.board.proofs.keys.found_keys.Given as goal
 
 abbrev pub invariant-loop-i : goal.invariant-loop-i
 invariant-loop-i l =
-    (l.i ≤ l.n) × (all (has_key l.b) (members l.n) ≡ all (has_key l.b) (drop l.i (members l.n))) × (l.ys ≡ filled 31 (keys_in l.i l.b))
-
-abbrev pub decreases-loop-i : goal.decreases-loop-i
-decreases-loop-i l = l.n - l.i
+    record {
+      tested : all (has_key l.b) (members l.n) ≡ all (has_key l.b) (drop l.i (members l.n));
+      found : l.ys ≡ filled 31 (keys_in l.i l.b);
+    }

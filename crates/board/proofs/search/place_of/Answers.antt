@@ -1,25 +1,16 @@
--- `place_of` meets its contract. The loop's invariant: the place lies between `low` and `high`.
-use Prim.Native.Nat.{◌+◌, ◌/◌}
-use native.Mathlib.Omega.{arith}
-use Rattle.board.proofs.Places.{place-within, place-above, place-upto}
+-- `place_of` meets its contract: the records below the address stand before the others, and the search finds where these begin.
+use Rattle.std.proofs.Common.{rules, of_calls, arith}
+use Rattle.std.proofs.lemmas.List.Sorted.{IsPartitionPoint-from_clause}
+use Rattle.words.specs.Bytes.{record_in}
+use Rattle.board.specs.Board.{is_below}
+use Rattle.board.proofs.Chunks.{below-parts, point-place}
 use Rattle.board.proofs.search.place_of.Goals as goal
 
-pub loop-low-init : goal.loop-low-init
-loop-low-init c =
-    let a = c.args in
-    omega (arith, c.record_count-high.ensures, place-within a.b.now a.k a.d a.m)
-
-pub loop-low-preserved-then-is_below : goal.loop-low-preserved-then-is_below
-loop-low-preserved-then-is_below c =
-    let a = c.args in
-    let mid = (c.loop-low.low + c.loop-low.high) / 2 in
-    omega (arith, place-above c.requires a.k a.d a.m mid (omega arith) c.record_at.ensures c.is_below.ensures c.if-is_below.true)
-
-pub loop-low-preserved : goal.loop-low-preserved
-loop-low-preserved c =
-    let a = c.args in
-    let mid = (c.loop-low.low + c.loop-low.high) / 2 in
-    omega (arith, place-upto c.requires a.k a.d a.m mid (omega arith) c.record_at.ensures c.is_below.ensures c.if-is_below.false)
-
 pub returns : goal.returns
-returns c = omega arith
+returns c =
+    let a = c.args in
+    let h = c.partition_point.ensures in
+    let S = c.requires in
+    let e = c.as_chunks.ensures.front in
+    point-place S a.k a.d a.m (omega (arith, h.bound, c.as_chunks.ensures.front_len))
+    (IsPartitionPoint-from_clause (λ y. is_below (record_in y) a.k a.d a.m) _ _ (rw e at h.partitioned) (below-parts S a.k a.d a.m) (λ x r q k. search (rules, of_calls)))

@@ -5,38 +5,29 @@ use Rattle.share.specs.declared.ShareForm.{ShareForm}
 use Rattle.verdicts.specs.Shares.{judges, shares_in, from_lowest}
 use Rattle.verdicts.specs.Posted.{SharesOn}
 use Rattle.verdicts.specs.Added.{multiplied}
-use Rattle.verdicts.proofs.Secrets.{full-taken}
 use Rattle.verdicts.proofs.Products.{products-front, added-shares}
 use Rattle.lines.specs.Lines.{Y_in}
 use Rattle.verdicts.proofs.added.added_draw.Goals as goal
 
-pub slice_bounds-encrypted-end : goal.slice_bounds-encrypted-end
-slice_bounds-encrypted-end c =
-    let front : let a = c.args in take a.s.n c.multiplied_shares-products.result.of ≡ multiplied judges a.s a.b.now Y_in =
-    products-front c.args.s c.args.b.now c.requires.0 c.requires.1 c.multiplied_shares-products.ensures in
-    let front-size : let a = c.args in length (take a.s.n c.multiplied_shares-products.result.of) ≡ a.s.n =
-    (added-shares c.args.s c.args.b.now c.requires.0 c.requires.1 front).size in
-    full-taken _ _ front-size
-
 pub slice_bounds-from_lowest-end : goal.slice_bounds-from_lowest-end
 slice_bounds-from_lowest-end c =
-    let front : let a = c.args in take a.s.n c.multiplied_shares-products.result.of ≡ multiplied judges a.s a.b.now Y_in =
+    let front : let a = c.args in take a.s.n c.multiplied_shares-products.result ≡ multiplied judges a.s a.b.now Y_in =
     products-front c.args.s c.args.b.now c.requires.0 c.requires.1 c.multiplied_shares-products.ensures in
-    let front-size : let a = c.args in length (take a.s.n c.multiplied_shares-products.result.of) ≡ a.s.n =
+    let front-size : let a = c.args in length (take a.s.n c.multiplied_shares-products.result) ≡ a.s.n =
     (added-shares c.args.s c.args.b.now c.requires.0 c.requires.1 front).size in
     sym front-size
 
 pub from_lowest-requires : goal.from_lowest-requires
 from_lowest-requires c =
-    let front : let a = c.args in take a.s.n c.multiplied_shares-products.result.of ≡ multiplied judges a.s a.b.now Y_in =
+    let front : let a = c.args in take a.s.n c.multiplied_shares-products.result ≡ multiplied judges a.s a.b.now Y_in =
     products-front c.args.s c.args.b.now c.requires.0 c.requires.1 c.multiplied_shares-products.ensures in
     let a = c.args in
-    subst (λ (F : ShareForm). SharesOn a.s a.b.now F (take a.s.n c.multiplied_shares-products.result.of)) (sym c.added_form.ensures)
+    subst (λ (F : ShareForm). SharesOn a.s a.b.now F (take a.s.n c.multiplied_shares-products.result)) (sym c.added_form.ensures)
     (added-shares a.s a.b.now c.requires.0 c.requires.1 front)
 
 pub returns : goal.returns
 returns c =
-    let front : let a = c.args in take a.s.n c.multiplied_shares-products.result.of ≡ multiplied judges a.s a.b.now Y_in =
+    let front : let a = c.args in take a.s.n c.multiplied_shares-products.result ≡ multiplied judges a.s a.b.now Y_in =
     products-front c.args.s c.args.b.now c.requires.0 c.requires.1 c.multiplied_shares-products.ensures in
     let a = c.args in
     c.from_lowest.ensures ∙ (λ j. from_lowest a.s a.b.now (shares_in judges a.s a.b.now (c.added_form.ensures j) (front j)))

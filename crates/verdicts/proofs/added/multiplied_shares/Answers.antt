@@ -1,47 +1,37 @@
--- `multiplied_shares` meets its contract. The loop's invariant: what is held are the products over the dealers above d.
-use mathlib.Core.Path.{ap, ◌∙◌}
+-- `multiplied_shares` meets its contract: the place of the dealer d holds his verdict, by which the products go on.
+use mathlib.Core.Path.{◌≡◌, ap, ◌∙◌}
 use mathlib.Core.List.{List}
-use Prim.Native.Nat.{◌-◌}
+use Prim.Native.Nat.{ℕ, ◌-◌}
 use native.Mathlib.Omega.{arith}
-use lib.ListN.{get_or}
+use borrow.Author.Rules.{rules}
+use lib.ListN.{get_or, replicate}
 use Rattle.verdicts.specs.Shares.{judges}
 use Rattle.verdicts.specs.Verdict.{verdict_on}
-use Rattle.verdicts.specs.declared.DealerVerdict.{DealerVerdict}
+use Rattle.verdicts.specs.declared.Verdict.{Verdict}
 use Rattle.verdicts.specs.declared.Verdict.TheVariants.{None}
 use Rattle.verdicts.proofs.Turns.{place-of}
-use Rattle.verdicts.proofs.Products.{products-start, products-filled, products-next, products-all}
+use Rattle.verdicts.proofs.Products.{products-start, front-size, products-next, products-all}
 use Rattle.verdicts.proofs.added.multiplied_shares.Goals as goal
-
-pub ones-products-requires : goal.ones-products-requires
-ones-products-requires c = c.requires.0.n-most
 
 pub loop-d-init : goal.loop-d-init
 loop-d-init c =
+    let ones : c.fill.new.self ≡ replicate {A = ℕ} c.args.s.n 1 = search rules in
+    products-start judges c.args.s c.args.b.now ones
+
+pub times_dealing-requires : goal.times_dealing-requires
+times_dealing-requires c =
     let a = c.args in
-    (c.requires.0.n-most, products-start judges a.s a.b.now c.ones-products.ensures)
-
-pub offset_bounds-verdicts-at : goal.offset_bounds-verdicts-at
-offset_bounds-verdicts-at c = omega (arith, c.loop-d.invariant.0, c.loop-d.invariant.1.within)
-
-pub bounds-verdicts-at : goal.bounds-verdicts-at
-bounds-verdicts-at c = omega (arith, c.loop-d.invariant.0, c.loop-d.invariant.1.within)
-
-pub times_dealing-products-requires : goal.times_dealing-products-requires
-times_dealing-products-requires c =
-    let a = c.args in
-    let i = c.loop-d.invariant in
-    let place = ap (λ (vs : List DealerVerdict). get_or vs (c.loop-d.d - 1) (record { verdict = None })) c.requires.2
-    ∙ place-of (verdict_on judges a.s a.b.now) a.s.n c.loop-d.d (omega arith) i.1.within i.0 in
-    (c.requires.0, c.requires.1, ap (λ (x : DealerVerdict). x.verdict) place, products-filled judges a.s a.b.now c.loop-d.d c.loop-d.products.of i.1)
+    let d = c.loop-d.d in
+    let place = ap (λ (vs : List Verdict). get_or vs (d - 1) None) c.requires.2
+    ∙ place-of (verdict_on judges a.s a.b.now) a.s.n d (omega arith) (omega arith) c.requires.0.n-most in
+    (c.requires.0, c.requires.1, place, front-size judges a.s a.b.now d c.loop-d.products c.loop-d.invariant)
 
 pub loop-d-preserved : goal.loop-d-preserved
 loop-d-preserved c =
-    let a = c.args in
-    let i = c.loop-d.invariant in
-    (i.0, products-next judges a.s a.b.now c.loop-d.d c.loop-d.products.of i.1 (omega arith) c.times_dealing-products.ensures)
+    let l = c.loop-d in
+    products-next judges c.args.s c.args.b.now l.d l.products l.invariant (omega arith) c.times_dealing.ensures
 
 pub returns : goal.returns
 returns c =
-    let a = c.args in
-    let i = c.loop-d.invariant in
-    products-all judges a.s a.b.now c.loop-d.d c.loop-d.products.of i.1 (omega arith)
+    let l = c.loop-d in
+    products-all judges c.args.s c.args.b.now l.d l.products l.invariant (omega arith)

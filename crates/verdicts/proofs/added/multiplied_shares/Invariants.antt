@@ -1,11 +1,7 @@
 -- `multiplied_shares` meets its contract. The loop's invariant: what is held are the products over the dealers above d.
-use Prim.Native.Nat.{◌≤◌}
 use Rattle.verdicts.specs.Shares.{judges}
 use Rattle.verdicts.proofs.Products.{ProductsAbove}
 use Rattle.verdicts.proofs.added.multiplied_shares.Given as goal
 
 abbrev pub invariant-loop-d : goal.invariant-loop-d
-invariant-loop-d l = (l.s.n ≤ 31) × ProductsAbove judges l.s l.b l.d l.products.of
-
-abbrev pub decreases-loop-d : goal.decreases-loop-d
-decreases-loop-d l = l.d
+invariant-loop-d l = ProductsAbove judges l.s l.b l.d l.products

@@ -1,14 +1,15 @@
--- `times_lines` meets its contract. The loop's invariant: the array holds the products of the first i members, and 0 behind.
+-- `times_lines` meets its contract. The loop's invariant: the products of the first i members are multiplied, the others are as they were.
 use mathlib.Core.Path.{◌≡◌}
-use Prim.Native.Nat.{◌-◌, ◌≤◌}
-use Rattle.words.specs.Lists.{map, filled, entry}
+use lib.ListN.{take, drop}
+use Rattle.words.specs.Lists.{map, entry}
 use Rattle.field.specs.Residue.{mul}
 use Rattle.sharing.specs.Setting.{members}
 use Rattle.lines.specs.Lines.{Y_in}
 use Rattle.verdicts.proofs.added.times_lines.Given as goal
 
 abbrev pub invariant-loop-i : goal.invariant-loop-i
-invariant-loop-i l = (l.i ≤ l.n) × (l.of ≡ filled 31 (map (λ j. mul l.gr.p (Y_in l.lines j) (entry l.before j)) (members l.i)))
-
-abbrev pub decreases-loop-i : goal.decreases-loop-i
-decreases-loop-i l = l.n - l.i
+invariant-loop-i l =
+    record {
+      done : take l.i l.products ≡ map (λ j. mul l.gr.p (Y_in l.lines j) (entry l.initial.products j)) (members l.i);
+      rest : drop l.i l.products ≡ drop l.i l.initial.products;
+    }

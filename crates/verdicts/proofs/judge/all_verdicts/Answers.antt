@@ -22,7 +22,7 @@ board_keys-ys-requires c =
 pub loop-d-init : goal.loop-d-init
 loop-d-init c =
     let a = c.args in
-    (c.requires.0.n-most, omega (arith, c.requires.0.proper.prime-p.above-one), above-start (verdict_on judges a.s a.b.now) a.s.group.p a.s.n)
+    above-start (verdict_on judges a.s a.b.now) a.s.group.p a.s.n
 
 pub slice_bounds-verdict-end : goal.slice_bounds-verdict-end
 slice_bounds-verdict-end c = sym (length-take-le _ _ (search rules))
@@ -34,30 +34,27 @@ verdict-v-requires c =
     let front : take a.s.n c.board_keys-ys.result ≡ keys_in a.s.n a.b.now = members-front (key_in a.b.now) a.s.n c.board_keys-ys.ensures in
     (c.requires.0, c.requires.1, front)
 
+pub times_secret-product-requires : goal.times_secret-product-requires
+times_secret-product-requires c = omega (arith, c.requires.0.proper.prime-p.above-one)
+
 pub overflow_add-accepted : goal.overflow_add-accepted
-overflow_add-accepted c =
-    let l = c.loop-d in
-    omega (arith, c.count_one-accepted.ensures, count_most c.verdict-v.result, l.invariant.2.few, l.invariant.0)
+overflow_add-accepted c = omega (arith, c.count_one-accepted.ensures, count_most c.verdict-v.result, c.loop-d.invariant.few, c.requires.0.n-most)
 
 pub loop-d-preserved : goal.loop-d-preserved
 loop-d-preserved c =
     let l = c.loop-d in
-    let i = l.invariant in (
-      i.0,
-      i.1,
-      above-next _ _ _ l.d l.verdicts l.accepted l.stuck l.product.0 i.2 c.loop-d-test.true i.0
-          c.verdict-v.result c.count_one-accepted.result c.any_stuck-stuck.result c.times_secret-product.result.0
-          c.verdict-v.ensures c.count_one-accepted.ensures c.any_stuck-stuck.ensures c.times_secret-product.ensures,
-    )
+    above-next _ _ _ l.d l.verdicts l.accepted l.stuck l.product.0 l.invariant (omega arith) c.requires.0.n-most
+    c.verdict-v.result c.count_one-accepted.result c.any_stuck-stuck.result c.times_secret-product.result.0
+    c.verdict-v.ensures c.count_one-accepted.ensures c.any_stuck-stuck.ensures c.times_secret-product.ensures
 
 pub draw_answer-requires : goal.draw_answer-requires
 draw_answer-requires c =
     let l = c.loop-d in
     let a = c.args in
-    (c.requires.0, c.requires.1, all-verdicts (verdict_on judges a.s a.b.now) _ a.s.n l.d l.verdicts l.accepted l.stuck l.product.0 l.invariant.2 (omega (arith, c.loop-d-test.false)))
+    (c.requires.0, c.requires.1, all-verdicts (verdict_on judges a.s a.b.now) _ a.s.n l.d l.verdicts l.accepted l.stuck l.product.0 l.invariant (omega arith))
 
 pub returns : goal.returns
 returns c =
     let l = c.loop-d in
     let a = c.args in
-    above-judged judges a.s a.b.now l.d l.verdicts l.accepted l.stuck l.product l.invariant.2 (omega (arith, c.loop-d-test.false)) _ c.draw_answer.ensures
+    above-judged judges a.s a.b.now l.d l.verdicts l.accepted l.stuck l.product l.invariant (omega arith) _ c.draw_answer.ensures

@@ -8,19 +8,11 @@ use Rattle.words.proofs.Tests.{passed, failed}
 use Rattle.records.specs.Layout.{u_of}
 use Rattle.verdicts.specs.Shares.{judges}
 use Rattle.verdicts.specs.Verdict.{commitments_of, encrypted_of, is_opened}
-use Rattle.verdicts.proofs.Secrets.{lines-sorted, full-taken, commitments-are, encrypted-are, encrypted-count, lines-commitments, opened-told, opening-inside, secret-shares, secret-opened}
+use Rattle.verdicts.proofs.Secrets.{lines-sorted, commitments-are, encrypted-are, encrypted-count, lines-commitments, opened-told, opening-inside, secret-shares, secret-opened}
 use Rattle.verdicts.proofs.verdicts.secret.Goals as goal
 
 pub find_opening-at-requires : goal.find_opening-at-requires
 find_opening-at-requires c = lines-sorted _ _ _ c.requires.0
-
-pub slice_bounds-vs-end : goal.slice_bounds-vs-end
-slice_bounds-vs-end c =
-    let commitments : take c.args.s.n c.args.figures.vs ≡ commitments_of c.args.s c.args.b.now c.args.d =
-    commitments-are c.args.s c.args.b.now c.args.d c.requires.1 in
-    let commitments-size : length (take c.args.s.n c.args.figures.vs) ≡ c.args.s.n =
-    (lines-commitments c.args.s c.args.b.now c.args.d c.requires.0 commitments).size in
-    full-taken _ _ commitments-size
 
 pub slice_bounds-opened_at-end : goal.slice_bounds-opened_at-end
 slice_bounds-opened_at-end c =
@@ -35,14 +27,6 @@ opened_at-requires c =
     let commitments : take c.args.s.n c.args.figures.vs ≡ commitments_of c.args.s c.args.b.now c.args.d =
     commitments-are c.args.s c.args.b.now c.args.d c.requires.1 in
     (c.requires.0.proper, lines-commitments c.args.s c.args.b.now c.args.d c.requires.0 commitments)
-
-pub slice_bounds-encrypted-end : goal.slice_bounds-encrypted-end
-slice_bounds-encrypted-end c =
-    let encrypted : take c.args.s.n c.args.figures.encrypted ≡ encrypted_of c.args.s c.args.b.now c.args.d =
-    encrypted-are c.args.s c.args.b.now c.args.d c.requires.1 in
-    let encrypted-size : length (take c.args.s.n c.args.figures.encrypted) ≡ c.args.s.n =
-    encrypted-count c.args.s c.args.b.now c.args.d encrypted in
-    full-taken _ _ encrypted-size
 
 pub slice_bounds-from_shares-end : goal.slice_bounds-from_shares-end
 slice_bounds-from_shares-end c =
