@@ -1,4 +1,4 @@
--- `board_keys_refusal` meets its contract: a missing key decides, and then the keys themselves.
+-- `check_board_keys` meets its contract: a missing key decides, and then the keys themselves.
 use mathlib.Core.Path.{sym, ap, ◌∙◌}
 use mathlib.Core.List.{List}
 use Prim.Native.Nat.{ℕ}
@@ -8,7 +8,7 @@ use Rattle.sharing.proofs.EachMember.{members-front}
 use Rattle.records.specs.Keys.{key_checks}
 use Rattle.board.specs.Board.{key_in, board_key_checks}
 use Rattle.board.proofs.KeyRecords.{some-found, none-found}
-use Rattle.board.proofs.keys.board_keys_refusal.Goals as goal
+use Rattle.board.proofs.keys.check_board_keys.Goals as goal
 
 pub returns-in_default : goal.returns-in_default
 unfolding board_key_checks
@@ -19,6 +19,6 @@ unfolding board_key_checks
 returns c =
     let s = c.args.s in
     let found = some-found s.n c.args.b.now c.found_keys.ensures c.in-Some.is in
-    c.keys_refusal.ensures
+    c.check_keys.ensures
     ∙ ap (λ (ys : List ℕ). refusal (key_checks s.group ys)) (members-front (key_in c.args.b.now) s.n found.1)
     ∙ sym (pick_true _ _ 12 found.0)

@@ -8,7 +8,7 @@ use Rattle.words.proofs.Tests.{pick_true, pick-false}
 use Rattle.words.proofs.Stages.{stage-number, stage-met, rest-number}
 use Rattle.group.specs.Table.{groups_of}
 use Rattle.chain.specs.Link.{link_value, link_group, is_link_record, value_checks, place_checks}
-use Rattle.chain.proofs.link.link_refusal.Goals as goal
+use Rattle.chain.proofs.link.check_link.Goals as goal
 
 pub returns-then-not-is_link_record : goal.returns-then-not-is_link_record
 returns-then-not-is_link_record c = simp (sym c.is_link_record.ensures ∙ c.if-not-is_link_record.true)
