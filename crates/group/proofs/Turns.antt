@@ -35,28 +35,11 @@ module _ (T : List ℕ) (n i : ℕ) where
         ap (are_groups T i) left ∙ ap (λ (j : ℕ). is_group_record j (record_at T i) && are_groups T j (n - (i + 1))) next
 
     -- ---- groups
-    turn : outcome_from T n i
+    pub groups_turn : outcome_from T n i
         ≡ outcome (NotPrime unless has_primes (group_at T i) ∷ NoGenerator unless has_generators (group_at T i) ∷ groups_checks (groups_from T (i + 1) (n - (i + 1)))) tt
-    turn =
+    groups_turn =
         ap (λ (m : ℕ). outcome (groups_checks (groups_from T i m)) (tt {0})) left
         ∙ ap (λ (j : ℕ). outcome (NotPrime unless has_primes (group_at T i) ∷ NoGenerator unless has_generators (group_at T i) ∷ groups_checks (groups_from T j (n - (i + 1)))) (tt {0})) next
-
-    module _ {G : Group} (e : G ≡ group_at T i) where
-      pub primes-refused : has_primes G ≡ false → outcome_from T n i ≡ Err NotPrime
-      primes-refused t = turn ∙ simp (← e, t)
-
-      pub generators-refused : has_primes G ≡ true → has_generators G ≡ false → outcome_from T n i ≡ Err NoGenerator
-      generators-refused t u = turn ∙ simp (← e, t, u)
-
-      pub group-passed : has_primes G ≡ true → has_generators G ≡ true → outcome_from T n i ≡ outcome_from T n (i + 1)
-      group-passed t u = turn ∙ simp (← e, t, u)
-
-  module _ (h : n ≤ i) where
-    none : n - i ≡ 0
-    none = omega arith
-
-    pub groups-passed : refusal_from T n i ≡ 0
-    groups-passed = ap (λ (m : ℕ). refusal (groups_checks (groups_from T i m))) none
 
 -- ---- the group of a number
 pub no_bytes : (T : List ℕ) → length T ≡ 0 → groups_of T ≡ built_in

@@ -98,6 +98,7 @@ fn has_generators(gr: Group) -> bool
 }
 
 // What the groups are refused by, one after the other: 20 p or q; 21 g or h.
+#[tactic(auto, using(crate::proofs::Turns::groups_turn))]
 fn check_groups(table: &[u8]) -> Result<(), Refusal>
     ensures { result ≡ outcome (groups_checks (groups_from table.now 0 (records_in table.now))) tt }
 {
