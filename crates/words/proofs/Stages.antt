@@ -3,7 +3,7 @@
 use mathlib.Core.Path.{◌≡◌, refl, sym, ap, ◌∙◌}
 use mathlib.Core.Bool.{Bool, true, false}
 use mathlib.Core.List.{List, [], ◌∷◌, ◌++◌, append_assoc}
-use mathlib.Core.Logic.{inr}
+use mathlib.Core.Logic.{inl, inr, ⊎_elim}
 use Prim.Native.Nat.{ℕ}
 use native.Mathlib.Omega.{arith}
 use lib.Dec.{ltb}
@@ -76,6 +76,10 @@ rest-first [] ds k m u = u
 rest-first (c ∷ cs) ds k m u = inr (m.0, rest-first cs ds k m.1 u)
 
 -- ---- a stage whose first check that is not met refuses by k: nothing behind it matters
+pub front-first : (cs ds : List Check) (k : Refusal) → FirstUnmet k cs → FirstUnmet k (cs ++ ds)
+front-first [] ds k u = absurd u
+front-first (c ∷ cs) ds k u = ⊎_elim inl (λ w. inr (w.0, front-first cs ds k w.1)) u
+
 module _ (cs ds : List Check) (k : Refusal) (u : FirstUnmet k cs) where
   pub front-outcome : {A : Type 0} (a : A) → Err k ≡ outcome (cs ++ ds) a
   front-outcome {A} a =
