@@ -23,7 +23,7 @@ use Rattle.rulings.proofs.Settings.{checked-round, checked-proper}
 
 pub ruling-reached : RulingReached
 ruling-reached J T s b (Ok A) I = (λ m. (A, refl, I.setting), λ w. I.met)
-ruling-reached J T s b (Err k) I = (λ m. absurd (met-unmet (ruling_checks T s b) m I), λ w. let e = w.1 in cc)
+ruling-reached J T s b (Err k) I = (λ m. absurd (met-unmet (ruling_checks T s b) k m I), λ w. let e = w.1 in cc)
 
 pub ruling-settled : RulingSettled
 ruling-settled J T s b o I A e =
@@ -37,7 +37,7 @@ ruling-settled J T s b o I A e =
     }
 
 pub ruling-refused : RulingRefused
-ruling-refused J T s b (Ok A) I k = (λ u. absurd (met-unmet (ruling_checks T s b) I.met u), λ e. cc)
+ruling-refused J T s b (Ok A) I k = (λ u. absurd (met-unmet (ruling_checks T s b) k I.met u), λ e. cc)
 ruling-refused J T s b (Err i) I k = (
   λ u.
     let p = (refused-exactly Unit (ruling_checks T s b) tt i).1 I in

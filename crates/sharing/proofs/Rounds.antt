@@ -7,11 +7,11 @@ use mathlib.Core.Logic.{◌↔◌}
 use Prim.Native.Nat.{ℕ, ◌+◌, ◌^◌, ◌≤◌, ◌<◌}
 use native.Mathlib.Omega.{arith}
 use borrow.Author.Tests.{ltb-true, leb-true, le-leb}
-use lib.ListN.{length}
+use lib.ListN.{length, take}
 use lib.Dec.{leb, ltb}
 use Rattle.words.specs.Lists.{All, Below, all, none_twice}
 use Rattle.words.specs.Checks.{Check, outcome, Met, if_met, Outcome}
-use Rattle.words.proofs.Lists.{All-to, up-length, up-within, up-distinct}
+use Rattle.words.proofs.Lists.{All-to, up-take, up-length, up-within, up-distinct}
 use Rattle.words.proofs.Tests.{and-true, true-and, all_true, true-all, true-distinct}
 use Rattle.words.proofs.Checks.{value-met}
 use Rattle.words.proofs.Stages.{met-both, rest-outcome, rest-choice, given-refused, given-value, given-kept, given-choice}
@@ -185,3 +185,13 @@ module _ {S : Setting} (P : ProperSetting S) where
 
   pub exponent-word : (e : ℕ) → e < S.group.q → e < 2 ^ 32
   exponent-word e h = omega (arith, P.q-word)
+
+-- ---- the first t of the numbers 1 to 31, as the code has them: they are the members 1 to t, and below q
+pub first_members : (t : ℕ) → t ≤ 31 → take t (members 31) ≡ members t
+first_members t h = up-take 1 t 31 h
+
+pub first_length : (t : ℕ) → length (members t) ≡ t
+first_length t = up-length 1 t
+
+pub first_low : (S : Setting) → ProperSetting S → Below S.group.q (take S.t (members 31))
+first_low S Y = subst (Below S.group.q) (sym (first_members S.t (omega (arith, Y.t-most, Y.n-most)))) (quorum-low Y (first-quorum Y))

@@ -50,6 +50,7 @@ pub fn recovered_from(gr: Group, ms: &[u32], ss: &[u32]) -> Element
 
 // The same product of the first t commitments, those of the members 1 to t.
 // Internal: callers ensure that the setting is proper and that there are n commitments.
+#[tactic(auto, using(crate::proofs::Rounds::first_members))]
 fn recovered_from_first(s: Setting, vs: &[u32]) -> Element
     requires { (ProperSetting s) × (length vs.now ≡ s.n) }
     ensures { result.0 ≡ recovered s.group (members s.t) (take s.t vs.now) }

@@ -107,8 +107,8 @@ pub first-exactly : FirstExactly
 first-exactly cs k = (number-first cs k, first-number cs k)
 
 -- not both facts hold
-pub met-unmet : (cs : List Check) {k : Refusal} → Met cs → FirstUnmet k cs → ⊥
-met-unmet cs {k} m u = value-refused (sym (met-value cs tt m) ∙ first-refused cs tt k u)
+pub met-unmet : (cs : List Check) (k : Refusal) → Met cs → FirstUnmet k cs → ⊥
+met-unmet cs k m u = value-refused (sym (met-value cs tt m) ∙ first-refused cs tt k u)
 
 -- ---- a value or none
 pub is-value : {A : Type 0} (o : Outcome A) → is_ok o ≡ true → (a : A) × (o ≡ Ok a)
