@@ -10,12 +10,6 @@ use Rattle.challenge.specs.Message.{challenge_of, share_message}
 use Rattle.challenge.proofs.Buffers.{put-words, words-one, behind-byte}
 use Rattle.challenge.proofs.message.share_challenge.Goals as goal
 
-pub put_four-requires : goal.put_four-requires
-put_four-requires c = simp length-set (omega arith)
-
-pub challenge-requires : goal.challenge-requires
-challenge-requires c = (c.requires.0, omega (arith, c.head-at.ensures.0), omega (arith, c.head-at.ensures.0))
-
 pub returns : goal.returns
 unfolding share_message
 returns c =
