@@ -27,8 +27,7 @@ with_share-requires c =
     let a = c.args in
     let l = c.loop-i in
     let s = c.place_of-start.result in
-    let most = held-most judges a.s a.b.now a.form a.encrypted.now s (l.i - s) l.invariant in
-    (
+    let most = held-most judges a.s a.b.now a.form a.encrypted.now s (l.i - s) l.invariant in (
       run-share c.requires l.i (omega (arith, c.place_of-start.ensures)) (omega (arith, c.place_of-end.ensures)),
       c.requires,
       omega (arith, most, c.requires.proper.t-most, c.requires.proper.n-most),
