@@ -10,19 +10,17 @@ use records::{ADDED, KEY, LINE, OPENING, SHARE, is_key_record, is_line_record, i
 use sharing::{Setting, is_member};
 use words::{Record, Refusal, record_at};
 
-// Whether r is a record of the table, for n members; its round is tested apart. By `&` each kind has one way through its tests.
+// Whether r is a record of the table, for n members; its round is tested apart.
+#[tactic(auto, unfolding(crate::specs::Board::is_shaped, words::specs::Bytes::agrees))]
 fn is_shaped(n: u32, r: Record) -> bool
     ensures { result ≡ is_shaped n r }
 {
-    let kind = r.w0;
-    let dealer = is_member(n, r.w1);
-    let member = is_member(n, r.w2);
-    match kind {
-        KEY => is_key_record(r) & member,
-        LINE => is_line_record(r) & dealer & member,
-        OPENING => is_opening_record(r) & dealer,
-        SHARE => is_share_record(SHARE, r) & dealer & member,
-        ADDED => is_share_record(ADDED, r) & (r.w1 == 0) & member,
+    match r.w0 {
+        KEY => is_key_record(r) && is_member(n, r.w2),
+        LINE => is_line_record(r) && is_member(n, r.w1) && is_member(n, r.w2),
+        OPENING => is_opening_record(r) && is_member(n, r.w1),
+        SHARE => is_share_record(SHARE, r) && is_member(n, r.w1) && is_member(n, r.w2),
+        ADDED => is_share_record(ADDED, r) && r.w1 == 0 && is_member(n, r.w2),
         _ => false,
     }
 }

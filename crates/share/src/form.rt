@@ -31,13 +31,15 @@ pub fn added_form() -> ShareForm
 }
 
 // Whether the dealer of a form is a member, or 0 of an added share.
+#[tactic(auto, unfolding(crate::specs::Share::is_dealer))]
 fn is_dealer(n: u32, form: ShareForm) -> bool
     ensures { result ≡ is_dealer n form }
 {
     if form.kind == ADDED {
-        return form.dealer == 0;
+        form.dealer == 0
+    } else {
+        is_member(n, form.dealer)
     }
-    is_member(n, form.dealer)
 }
 
 // Whether the dealer of a form is one, and i is a member.

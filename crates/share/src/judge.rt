@@ -18,13 +18,7 @@ use words::{Record, Refusal};
 fn is_share_of(form: ShareForm, i: u32, share: Record) -> bool
     ensures { result ≡ is_share_for form i share }
 {
-    if !is_share_record(form.kind, share) {
-        return false;
-    }
-    if share.w1 != form.dealer {
-        return false;
-    }
-    share.w2 == i
+    is_share_record(form.kind, share) && share.w1 == form.dealer && share.w2 == i
 }
 
 // The first number refused of all that comes before the figures: 8, 3, 6 for y or the encrypted share, 4 and 17.

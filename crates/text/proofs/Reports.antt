@@ -8,7 +8,7 @@ use borrow.Author.Tests.{le-leb}
 use lib.Dec.{leb}
 use Rattle.words.specs.Lists.{map, up_from}
 use Rattle.words.specs.Checks.{Check, outcome, Met, FirstUnmet}
-use Rattle.words.proofs.Lists.{All-to, take-map, map-comp, map_same, up-take, up-within}
+use Rattle.words.proofs.Lists.{All-to, take-map, map_same, up-take, up-within}
 use Rattle.words.proofs.Tests.{pick_true}
 use Rattle.words.proofs.Checks.{decided, value-exactly, refused-exactly}
 use Rattle.words.proofs.Stages.{met-both, rest-outcome, behind-outcome, front-outcome}

@@ -16,7 +16,7 @@ use Rattle.records.specs.Layout.{member_of, Z_of}
 use Rattle.board.specs.Search.{filter}
 use Rattle.share.specs.declared.ShareForm.{ShareForm}
 use Rattle.verdicts.specs.Shares.{Judges, is_share_in, shares_in}
-use Rattle.verdicts.specs.Gathered.{with_share, held_of, lowest_in}
+use Rattle.verdicts.specs.Gathered.{pushed, with_share, held_of, lowest_in}
 use Rattle.verdicts.specs.declared.GatheredShares.{GatheredShares}
 
 -- ---- the first t of a list
@@ -69,8 +69,7 @@ module _ (f : ℕ → Bool) (s : ℕ) where
 
 -- ---- one more, held behind the others
 held_more : (b is : List ℕ) (i : ℕ) → length is < 31
-    → record { members = set (held_of b is).members (length is) (member_of (record_at b i)); shares = set (held_of b is).shares (length is) (Z_of (record_at b i)); count = length is + 1 }
-    ≡ held_of b (is ++ (i ∷ []))
+    → pushed (member_of (record_at b i)) (Z_of (record_at b i)) (held_of b is) ≡ held_of b (is ++ (i ∷ []))
 unfolding held_of
 held_more b is i h =
     let more : (g : ℕ → ℕ) → set (filled 31 (map g is)) (length is) (g i) ≡ filled 31 (map g (is ++ (i ∷ []))) =
@@ -93,6 +92,9 @@ module _ (J : Judges) (S : Setting) (b : List ℕ) (F : ShareForm) (Ys : List �
     unfolding held_of
     held-count = ap (λ (B : GatheredShares). B.count) e
 
+    pub held-most : A.count ≤ S.t
+    held-most = omega (arith, held-count, length-take S.t (passing (is_share_in J S b F Ys) s k))
+
     pub held_next : S.t ≤ 31 → A.count < S.t → with_share J S b F Ys (s + k) A ≡ held_at (k + 1)
     unfolding with_share held_of
     held_next l h = ap (with_share J S b F Ys (s + k)) e ∙ by-test (is_share_in J S b F Ys (s + k)) refl
@@ -102,7 +104,7 @@ module _ (J : Judges) (S : Setting) (b : List ℕ) (F : ShareForm) (Ys : List �
 
         by-test : (x : Bool) → is_share_in J S b F Ys (s + k) ≡ x
             → pick x
-            (record { members = set (held_of b is).members (length is) (member_of (record_at b (s + k))); shares = set (held_of b is).shares (length is) (Z_of (record_at b (s + k))); count = length is + 1 })
+            (pushed (member_of (record_at b (s + k))) (Z_of (record_at b (s + k))) (held_of b is))
             (held_of b is)
             ≡ held_at (k + 1)
         by-test true p = held_more b is (s + k) (omega (arith, held-count)) ∙ ap (held_of b) (sym (lowest-more (is_share_in J S b F Ys) s S.t k p (omega (arith, held-count))))

@@ -51,9 +51,6 @@ few-taken t xs h = omega (arith, length-take t xs)
 all-taken : (t : ℕ) (xs : List ℕ) → t ≤ length (take t xs) → t ≤ length xs
 all-taken t xs h = omega (arith, length-take t xs)
 
-pub full-taken : (k : ℕ) (l : List ℕ) → length (take k l) ≡ k → k ≤ length l
-full-taken k l e = omega (arith, length-take k l, e)
-
 module _ (J : Judges) {S : Setting} {b : List ℕ} {F : ShareForm} {Ys : List ℕ} (L : SharesOn S b F Ys) where
   abbrev shares : List ℕ
   shares = shares_in J S b F Ys
@@ -89,11 +86,8 @@ module _ (J : Judges) {S : Setting} {b : List ℕ} {F : ShareForm} {Ys : List �
     pub shares-count : length (take A.count A.shares) ≡ A.count
     shares-count = ap length shares-are ∙ map-length (λ i. Z_of (record_at b i)) taken ∙ sym count-is
 
-    pub members-room : A.count ≤ length A.members
-    members-room = full-taken _ _ members-count
-
-    pub shares-room : A.count ≤ length A.shares
-    shares-room = full-taken _ _ shares-count
+    pub count_most : A.count ≤ 31
+    count_most = omega (arith, count-is, length-take S.t shares, L.proper.t-most, L.proper.n-most)
 
     pub found-low : Below S.group.q (take A.count A.members)
     found-low = subst (Below S.group.q) (sym members-are) members-low

@@ -4,10 +4,10 @@ use mathlib.Core.Path.{◌≡◌, refl, sym, ap, ◌∙◌}
 use mathlib.Core.Bool.{true, ◌&&◌}
 use mathlib.Core.List.{List, []}
 use mathlib.Core.Logic.{⊎_elim}
-use Prim.Native.Nat.{ℕ, ◌+◌, ◌-◌, ◌*◌, ◌<◌, ◌≤◌}
+use Prim.Native.Nat.{ℕ, ◌-◌, ◌*◌, ◌<◌, ◌≤◌}
 use native.Mathlib.Omega.{arith}
 use borrow.Author.Tests.{eq-eqb, eqb-true}
-use lib.ListN.{take, drop, set, length-drop}
+use lib.ListN.{take, drop, length-drop}
 use lib.Seq.{length-take-le}
 use lib.Dec.{eqb}
 use Rattle.words.specs.Lists.{up_from, entry}
@@ -35,7 +35,7 @@ use Rattle.board.proofs.Places.{place-within, run-rises, in-run, to-run}
 use Rattle.board.proofs.KeyRecords.{keys-exact}
 use Rattle.verdicts.specs.Shares.{Judges, judges, share_answer, is_share_in, shares_in}
 use Rattle.verdicts.specs.Posted.{SharesOn, ShareOf}
-use Rattle.verdicts.specs.Gathered.{with_share}
+use Rattle.verdicts.specs.Gathered.{pushed, with_share}
 use Rattle.verdicts.specs.declared.GatheredShares.{GatheredShares}
 use Rattle.std.specs.Prelude.{Ok, Err, is_ok}
 use Rattle.words.specs.declared.refusal.Refusal.{Refusal}
@@ -79,13 +79,13 @@ module _ (S : Setting) (b : List ℕ) (F : ShareForm) (Ys : List ℕ) (i : ℕ) 
   with_none f =
       sym (pick-false (is_share_in judges S b F Ys i) _ A (share-told judges S b F Ys i H ∙ ap is_ok (sym e ∙ f)))
 
-  pub with-one : {Z : Element} (m : ℕ) → a ≡ Ok Z → m ≡ member_of (record_at b i)
-      → ◌≡◌ {A = GatheredShares} (record { members = set A.members A.count m; shares = set A.shares A.count Z.0; count = A.count + 1 }) (with_share judges S b F Ys i A)
+  pub with-one : {Z : Element} (m : ℕ) → a ≡ Value Z → m ≡ member_of (record_at b i)
+      → pushed m Z.0 A ≡ with_share judges S b F Ys i A
   unfolding with_share
   with-one {Z} m f h =
       let v = share-value S b F Ys i Z (sym e ∙ f) in
-      (λ j. record { members = set A.members A.count (h j); shares = set A.shares A.count (v j); count = A.count + 1 })
-      ∙ sym (pick_true (is_share_in judges S b F Ys i) _ A (share-told judges S b F Ys i H ∙ ap is_ok (sym e ∙ f)))
+      (λ j. pushed (h j) (v j) A)
+      ∙ sym (pick_true (is_share_in judges S b F Ys i) _ A (share-told judges S b F Ys i H ∙ ap is_value (sym e ∙ f)))
 
 -- ---- on a board with an encrypted share for each member
 module _ {S : Setting} {b : List ℕ} {F : ShareForm} {Ys : List ℕ} (L : SharesOn S b F Ys) where
@@ -101,10 +101,12 @@ module _ {S : Setting} {b : List ℕ} {F : ShareForm} {Ys : List ℕ} (L : Share
       let s = in-run shares-sorted F.kind F.dealer i h l in
       record { inside = omega (arith, place-within b F.kind F.dealer 32); kind = s.0; dealer = s.1 }
 
-  pub run-shares : (J : Judges) → filter (is_share_in J S b F Ys) (up_from (place_of b F.kind F.dealer 0) (place_of b F.kind F.dealer 32 - place_of b F.kind F.dealer 0)) ≡ shares_in J S b F Ys
+  pub run-shares : (J : Judges) {s e : ℕ} → s ≡ place_of b F.kind F.dealer 0 → e ≡ place_of b F.kind F.dealer 32
+      → filter (is_share_in J S b F Ys) (up_from s (e - s)) ≡ shares_in J S b F Ys
   unfolding shares_in
-  run-shares J =
-      filter-run (is_share_in J S b F Ys) (place_of b F.kind F.dealer 0) (place_of b F.kind F.dealer 32) (records_in b) (run-rises shares-sorted F.kind F.dealer) (place-within b F.kind F.dealer 32)
+  run-shares J start end =
+      (λ j. filter (is_share_in J S b F Ys) (up_from (start j) (end j - start j)))
+      ∙ filter-run (is_share_in J S b F Ys) (place_of b F.kind F.dealer 0) (place_of b F.kind F.dealer 32) (records_in b) (run-rises shares-sorted F.kind F.dealer) (place-within b F.kind F.dealer 32)
       (λ i h e.
       let s = share-address J S b F Ys i e in
       to-run shares-sorted F.kind F.dealer i h s.0 s.1 (omega (arith, (shapes S b form i h).member, L.proper.n-most)))

@@ -14,12 +14,14 @@ use Rattle.verdicts.specs.Shares.{Judges, is_share_in, shares_in}
 use Rattle.verdicts.specs.Verdict.{is_accepted}
 use Rattle.verdicts.specs.declared.GatheredShares.{GatheredShares}
 
+-- one more behind the others
+abbrev pub pushed : ℕ → ℕ → GatheredShares → GatheredShares
+pushed m z A = record { members = set A.members A.count m; shares = set A.shares A.count z; count = A.count + 1 }
+
 -- one more, with its member and its share, where the record i is an accepted share
 unfoldable pub with_share : Judges → Setting → List ℕ → ShareForm → List ℕ → ℕ → GatheredShares → GatheredShares
 with_share J S b F Ys i A =
-    pick (is_share_in J S b F Ys i)
-    (record { members = set A.members A.count (member_of (record_at b i)); shares = set A.shares A.count (Z_of (record_at b i)); count = A.count + 1 })
-    A
+    pick (is_share_in J S b F Ys i) (pushed (member_of (record_at b i)) (Z_of (record_at b i)) A) A
 
 -- the members and shares of records, in order, and 0 behind them
 unfoldable pub held_of : List ℕ → List ℕ → GatheredShares

@@ -26,6 +26,7 @@ pub enum Verdict {
 }
 
 // The lowest members with accepted shares, and these shares: two arrays with 0 behind them, and how many there are.
+// No ArrayVec: with `push` it reads as plainly, and the library rests on no further crate of the kit.
 #[derive(Clone, Copy)]
 pub struct GatheredShares {
     pub members: [u32; 31],

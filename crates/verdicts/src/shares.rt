@@ -2,7 +2,7 @@
 ghost use Rattle.std.specs.Prelude.{◌≡◌, ◌<◌};
 ghost use Rattle.verdicts.specs.Shares.{judges, share_answer, shares_in, from_lowest};
 ghost use Rattle.verdicts.specs.Posted.{SharesOn, ShareOf};
-ghost use Rattle.verdicts.specs.Gathered.{with_share, lowest_in};
+ghost use Rattle.verdicts.specs.Gathered.{pushed, with_share, lowest_in};
 
 use crate::GatheredShares;
 use board::{find_key, place_of};
@@ -10,6 +10,18 @@ use group::Element;
 use share::{EncryptedShare, ShareForm, judge_share_figures};
 use sharing::{Setting, recovered_from};
 use words::{Refusal, record_at};
+
+impl GatheredShares {
+    // One more behind the others. Internal: callers ensure that there is room.
+    fn push(&mut self, member: u32, share: u32)
+        requires { self.old.count < 31 }
+        ensures { self.new ≡ pushed member share self.old }
+    {
+        self.members[self.count] = member;
+        self.shares[self.count] = share;
+        self.count += 1;
+    }
+}
 
 // What the judge of shares answers for the record i with the key of its member and his encrypted share: its figures decide, for the
 // board settles the rest.
@@ -26,17 +38,15 @@ fn accepted_share(
 {
     let share = record_at(b, i);
     let key = record_at(b, find_key(b, share.w2));
-    let at = share.w2 as usize - 1;
-    let y = Element(key.w3);
     let e = EncryptedShare {
         form,
         member: share.w2,
-        encrypted: Element(encrypted[at]),
+        encrypted: Element(encrypted[share.w2 as usize - 1]),
     };
-    judge_share_figures(s, e, y, share)
+    judge_share_figures(s, e, Element(key.w3), share)
 }
 
-// The shares found before the record i, and its share where it is an accepted one.
+// Adds the share in the record i to those found before it, where it is an accepted one.
 // Internal: callers ensure what accepted_share asks, and that there is room.
 fn with_share(
     s: Setting,
@@ -44,25 +54,15 @@ fn with_share(
     b: &[u8],
     encrypted: &[u32],
     i: usize,
-    found: GatheredShares,
-) -> GatheredShares
-    requires { (ShareOf b.now form i) × (SharesOn s b.now form encrypted.now) × (found.count < 31) }
-    ensures { result ≡ with_share judges s b.now form encrypted.now i found }
+    found: &mut GatheredShares,
+)
+    requires { (ShareOf b.now form i) × (SharesOn s b.now form encrypted.now) × (found.old.count < 31) }
+    ensures { found.new ≡ with_share judges s b.now form encrypted.now i found.old }
 {
     let Ok(decrypted) = accepted_share(s, form, b, encrypted, i) else {
-        return found;
+        return;
     };
-    let member = record_at(b, i).w2;
-    let at = found.count;
-    let mut members = found.members;
-    let mut shares = found.shares;
-    members[at] = member;
-    shares[at] = decrypted.0;
-    GatheredShares {
-        members,
-        shares,
-        count: at + 1,
-    }
+    found.push(record_at(b, i).w2, decrypted.0);
 }
 
 // The t lowest members with accepted shares, or all where there are fewer: the shares of one form stand in a row, by ascending
@@ -72,17 +72,18 @@ fn lowest_shares(s: Setting, form: ShareForm, b: &[u8], encrypted: &[u32]) -> Ga
     requires { SharesOn s b.now form encrypted.now }
     ensures { result ≡ lowest_in judges s b.now form encrypted.now }
 {
-    let room = s.t as usize;
+    let start = place_of(b, form.kind, form.dealer, 0);
     let end = place_of(b, form.kind, form.dealer, 32);
     let mut found = GatheredShares {
         members: [0; 31],
         shares: [0; 31],
         count: 0,
     };
-    let mut i = place_of(b, form.kind, form.dealer, 0);
-    while i < end && found.count < room {
-        found = with_share(s, form, b, encrypted, i, found);
-        i += 1;
+    for i in start..end {
+        if found.count == s.t as usize {
+            break;
+        }
+        with_share(s, form, b, encrypted, i, &mut found);
     }
     found
 }
@@ -99,7 +100,5 @@ pub(crate) fn from_lowest(s: Setting, form: ShareForm, b: &[u8], encrypted: &[u3
     if k < s.t as usize {
         return Err(Refusal::StillStuck);
     }
-    let members = found.members;
-    let shares = found.shares;
-    Ok(recovered_from(s.group, &members[..k], &shares[..k]))
+    Ok(recovered_from(s.group, &found.members[..k], &found.shares[..k]))
 }

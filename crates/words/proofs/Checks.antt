@@ -108,7 +108,7 @@ first-exactly cs k = (number-first cs k, first-number cs k)
 
 -- not both facts hold
 pub met-unmet : (cs : List Check) (k : Refusal) → Met cs → FirstUnmet k cs → ⊥
-met-unmet cs k m u = value-refused (sym (met-value cs tt m) ∙ first-refused cs tt k u)
+met-unmet cs k m u = value-refused {A = Unit {0}} (sym (met-value cs (tt {0}) m) ∙ first-refused cs (tt {0}) k u)
 
 -- ---- a value or none
 pub is-value : {A : Type 0} (o : Outcome A) → is_ok o ≡ true → (a : A) × (o ≡ Ok a)

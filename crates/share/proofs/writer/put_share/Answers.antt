@@ -4,9 +4,6 @@ use Rattle.words.specs.Bytes.{record_bytes}
 use Rattle.share.proofs.Settled.{share-bytes}
 use Rattle.share.proofs.writer.put_share.Goals as goal
 
-pub write_record-requires : goal.write_record-requires
-write_record-requires c = c.requires.6
-
 pub returns : goal.returns
 returns c =
     let a = c.args in

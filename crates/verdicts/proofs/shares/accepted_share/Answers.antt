@@ -15,11 +15,11 @@ find_key-requires c = shares-sorted c.requires.1
 pub record_at-key-requires : goal.record_at-key-requires
 record_at-key-requires c = omega (arith, c.find_key.ensures, (share-member c.requires.1 c.requires.0 c.record_at-share.ensures).2)
 
-pub overflow_sub-at : goal.overflow_sub-at
-overflow_sub-at c = omega (arith, (share-member c.requires.1 c.requires.0 c.record_at-share.ensures).0)
+pub overflow_sub-e : goal.overflow_sub-e
+overflow_sub-e c = omega (arith, (share-member c.requires.1 c.requires.0 c.record_at-share.ensures).0)
 
-pub bounds-encrypted-at : goal.bounds-encrypted-at
-bounds-encrypted-at c =
+pub bounds-encrypted-share : goal.bounds-encrypted-share
+bounds-encrypted-share c =
     let m = share-member c.requires.1 c.requires.0 c.record_at-share.ensures in
     omega (arith, m.0, m.1, c.requires.1.size)
 

@@ -2,17 +2,14 @@
 use native.Mathlib.Omega.{arith}
 use mathlib.Core.Path.{sym, ◌∙◌}
 use Rattle.verdicts.specs.Shares.{judges}
-use Rattle.verdicts.proofs.Secrets.{members-count, shares-count, members-room, shares-room, found-low, found-enough}
+use Rattle.verdicts.proofs.Secrets.{members-count, shares-count, count_most, found-low, found-enough}
 use Rattle.verdicts.proofs.shares.from_lowest.Goals as goal
 
-pub slice_bounds-members-end : goal.slice_bounds-members-end
-slice_bounds-members-end c = members-room judges c.requires c.lowest_shares-found.ensures
+pub shared_ref_as_front-recovered_from : goal.shared_ref_as_front-recovered_from
+shared_ref_as_front-recovered_from c = count_most judges c.requires c.lowest_shares-found.ensures
 
 pub slice_bounds-recovered_from-end : goal.slice_bounds-recovered_from-end
 slice_bounds-recovered_from-end c = sym (members-count judges c.requires c.lowest_shares-found.ensures)
-
-pub slice_bounds-shares-end : goal.slice_bounds-shares-end
-slice_bounds-shares-end c = shares-room judges c.requires c.lowest_shares-found.ensures
 
 pub slice_bounds-recovered_from-end-2 : goal.slice_bounds-recovered_from-end-2
 slice_bounds-recovered_from-end-2 c = sym (shares-count judges c.requires c.lowest_shares-found.ensures)
