@@ -18,8 +18,8 @@ returns-in_err-setting c =
     subst (RulingOf judges a.table.now a.set.now a.board.now) (sym e)
     (files-refused judges a.table.now a.set.now a.board.now c.files_setting.ensures c.in_err-setting.was)
 
-pub judge_in-judgement-requires : goal.judge_in-judgement-requires
-judge_in-judgement-requires c = files-proper _ _ c.files_setting.ensures c.in_ok-setting.was
+pub judge_in-requires : goal.judge_in-requires
+judge_in-requires c = files-proper _ _ c.files_setting.ensures c.in_ok-setting.was
 
 pub returns-in_err-judgement : goal.returns-in_err-judgement
 returns-in_err-judgement c =
