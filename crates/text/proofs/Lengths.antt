@@ -4,6 +4,7 @@ use mathlib.Core.List.{List, [], ◌∷◌, ◌++◌}
 use Prim.Native.Nat.{ℕ, suc, ◌+◌, ◌*◌, ◌≤◌, ◌<◌}
 use native.Mathlib.Omega.{arith}
 use lib.ListN.{length, drop, length-append}
+use Rattle.words.specs.Numbers.{number}
 use Rattle.words.specs.Checks.{Check, Outcome, outcome}
 use Rattle.words.proofs.Lists.{map-length, up-length}
 use Rattle.words.proofs.Checks.{value-met}
@@ -43,7 +44,7 @@ secret-most Stuck = omega arith
 
 verdict-most : (v : Verdict) → length (verdict_text v) ≤ 20
 verdict-most None = omega arith
-verdict-most (Refused k) = omega (arith, worded-most refused_word k)
+verdict-most (Refused k) = omega (arith, worded-most refused_word (number k))
 verdict-most (Accepted s) = secret-most s
 
 dealer-most : (d : ℕ) (v : Verdict) → d < 100 → length (dealer_line d v) ≤ 31
@@ -70,7 +71,7 @@ dealers-most d (v ∷ vs) h =
 
 refused-most : (k : Refusal) → length (refused_line k) ≤ 19
 unfolding refused_line
-refused-most k = line-most refused_word k
+refused-most k = line-most refused_word (number k)
 
 draw-most : (o : Outcome Element) → length (draw_line o) ≤ 19
 draw-most (Ok v) = omega (arith, line-most draw_word v.0)

@@ -7,7 +7,9 @@ use native.Mathlib.Omega.{arith}
 use borrow.Author.Tests.{le-leb}
 use lib.Dec.{leb}
 use Rattle.words.specs.Lists.{map, up_from}
-use Rattle.words.specs.Checks.{Check, outcome, Met, FirstUnmet}
+use Rattle.std.specs.Prelude.{Ok, Err}
+use Rattle.words.specs.Checks.{Check, Outcome, outcome, Met, FirstUnmet}
+use Rattle.words.specs.declared.refusal.Refusal.{Refusal}
 use Rattle.words.proofs.Lists.{All-to, take-map, map_same, up-take, up-within}
 use Rattle.words.proofs.Tests.{pick_true}
 use Rattle.words.proofs.Checks.{decided, value-exactly, refused-exactly}
@@ -80,17 +82,17 @@ pub text-refused : TextRefused
 text-refused J T s b k u = text-ruled J T s b ∙ unmet-text (ruling_checks T s b) _ k u
 
 -- ---- the text by the ruling
-module _ (J : Judges) (T s b : List ℕ) (A : Ruling) (I : RulingOf J T s b A) where
-  pub refused-text : {k : Refusal} → A.setting ≡ Err k → draw_text J T s b ≡ refused_line k
-  refused-text {k} f = text-ruled J T s b ∙ unmet-text (ruling_checks T s b) _ k ((ruling-refused J T s b A I k).1 f)
+module _ (J : Judges) (T s b : List ℕ) (o : Outcome Ruling) (I : RulingOf J T s b o) where
+  pub refused-text : (k : Refusal) → o ≡ Err k → draw_text J T s b ≡ refused_line k
+  refused-text k f = text-ruled J T s b ∙ unmet-text (ruling_checks T s b) _ k ((ruling-refused J T s b o I k).1 f)
 
-  pub reported-text : {S : Setting} → A.setting ≡ Ok S → draw_text J T s b ≡ report_from S A.judgement
-  reported-text {S} f =
-      let w = ruling-settled J T s b A I S f in
+  pub reported-text : (A : Ruling) → o ≡ Ok A → draw_text J T s b ≡ report_from A.setting A.judgement
+  reported-text A f =
+      let w = ruling-settled J T s b o I A f in
       text-ruled J T s b
-      ∙ text-passed (ruling_checks T s b) _ ((ruling-reached J T s b A I).1 (f ∙ ap Ok w.setting))
+      ∙ text-passed (ruling_checks T s b) _ ((ruling-reached J T s b o I).1 (A, f, w.setting))
       ∙ ap (λ (X : Setting). report J X b) (sym w.setting)
-      ∙ sym (report-same J S b A.judgement w.proper.n-most w.reached w.judgement)
+      ∙ sym (report-same J A.setting b A.judgement w.proper.n-most w.reached w.judgement)
 
 -- ---- the table
 pub table-first : TableFirst
