@@ -67,6 +67,7 @@ fn put_picked(value: Element, radius: u8, total: usize, out: &mut [u32])
 }
 
 // Picks plots by an element of a group: 6, 15, 16 and 3.
+#[tactic(auto, unfolding(crate::specs::Picked::pick_in, crate::specs::Picked::lent_plots_in))]
 pub fn pick_plots_in(
     gr: Group,
     value: Element,
