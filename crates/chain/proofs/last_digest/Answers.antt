@@ -11,7 +11,7 @@ unfolding digest_after
 returns-then-all-eq0 c =
     let b = c.args.b.now in
     let none : links_in b ≡ 0 = omega (arith, c.links-all.ensures, c.if-all-eq0.true) in
-    c.no_digest.ensures ∙ sym (ap (digest_after b) none)
+    sym (ap (digest_after b) none)
 
 pub returns : goal.returns
 unfolding digest_after
