@@ -1,5 +1,5 @@
 -- `check_extension` meets its contract: what refuses the chain is handed on, then the test that failed decides, then the draw value.
-use mathlib.Core.Path.{◌≡◌, ◌∙◌}
+use mathlib.Core.Path.{◌≡◌}
 use Rattle.std.proofs.Common.{rules}
 use Rattle.std.specs.Prelude.{Err}
 use Rattle.words.specs.Checks.{outcome}

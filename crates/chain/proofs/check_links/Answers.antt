@@ -1,5 +1,5 @@
 -- `check_links` meets its contract: what refuses the link i is what refuses them all.
-use mathlib.Core.Path.{◌≡◌, ◌∙◌, sym}
+use mathlib.Core.Path.{◌≡◌}
 use Rattle.std.proofs.Common.{rules}
 use Rattle.std.specs.Prelude.{Err}
 use Rattle.group.specs.Table.{groups_of}

@@ -1,10 +1,9 @@
 -- `check_link` meets its contract: the round and the digest decide, where what stands before them is met.
-use mathlib.Core.Path.{◌≡◌, sym, ◌∙◌}
 use Rattle.std.proofs.Common.{rules}
 use Rattle.words.specs.Bytes.{agrees}
-use Rattle.words.proofs.Stages.{stage-met, rest-outcome}
+use Rattle.words.proofs.Stages.{stage-met}
 use Rattle.group.specs.Table.{groups_of}
-use Rattle.chain.specs.Link.{link_value, link_group, value_checks, place_checks}
+use Rattle.chain.specs.Link.{link_value, link_group, value_checks}
 use Rattle.chain.proofs.link.check_link.Goals as goal
 
 pub returns : goal.returns
