@@ -10,7 +10,8 @@ use Rattle.words.specs.declared.refusal.Refusal.{Refusal}
 use Rattle.words.proofs.Stages.{stage-met, stage-refused, rest-outcome}
 use Rattle.group.specs.declared.Group.{Group}
 use Rattle.chain.specs.Link.{link_checks}
-use Rattle.chain.specs.Chain.{figures_at, digest_at, digest_after, links_checks}
+use Rattle.group.specs.Table.{groups_of}
+use Rattle.chain.specs.Chain.{figures_at, digest_at, digest_after, links_checks, chain_checks, chain_outcome, next_checks, extend_checks}
 
 -- the checks of the link i
 abbrev pub checks_at : List Group → List ℕ → ℕ → List Check
@@ -40,3 +41,10 @@ module _ (Gs : List Group) (b : List ℕ) (m i : ℕ) (h : i < m) where
         turn
         ∙ sym (rest-outcome (checks_at Gs b i) (links_checks Gs b (suc i) (m - (i + 1))) (stage-met (checks_at Gs b i) (e ∙ found)) tt)
         ∙ ap (λ (j : ℕ). outcome (links_checks Gs b j (m - (i + 1))) (tt {0})) next
+
+-- ---- an extension of an accepted chain
+pub behind_chain : (T b : List ℕ) (number v room : ℕ) → Ok tt ≡ chain_outcome T b
+    → outcome (extend_checks T b number v room) (tt {0}) ≡ outcome (next_checks (groups_of T) b number v room) tt
+unfolding chain_outcome extend_checks
+behind_chain T b number v room e =
+    sym (rest-outcome (chain_checks T b) (next_checks (groups_of T) b number v room) (stage-met (chain_checks T b) e) tt)

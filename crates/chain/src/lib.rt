@@ -60,6 +60,7 @@ pub fn judge_chain(table: &[u8], b: &[u8]) -> Result<(), Refusal>
 
 // What an extension is refused by: table and chain, as judge_chain; 3 a full chain, or not the room of one link; 1 and 6 the draw value,
 // as check_value.
+#[tactic(auto, using(crate::proofs::Steps::behind_chain))]
 fn check_extension(table: &[u8], b: &[u8], number: u32, value: Element, room: usize) -> Result<(), Refusal>
     ensures { result ≡ outcome (extend_checks table.now b.now number value.0 room) tt }
 {
@@ -71,6 +72,7 @@ fn check_extension(table: &[u8], b: &[u8], number: u32, value: Element, room: us
 }
 
 // The digest of the last link, or what stands for it in a chain of none.
+#[tactic(auto, unfolding(crate::specs::Chain::digest_after))]
 fn last_digest(b: &[u8]) -> Record
     ensures { result ≡ digest_after b.now (links_in b.now) }
 {

@@ -53,6 +53,7 @@ pub(crate) fn check_value(table: &[u8], number: u32, value: Element) -> Result<(
 
 // What a link is refused by, as the link of this round behind this digest: 4 a spare byte; 1 and 6 the draw value, as check_value; 19 the
 // round; 18 the digest. Internal: callers have judged the table.
+#[tactic(auto, unfolding(words::specs::Bytes::agrees))]
 pub(crate) fn check_link(
     table: &[u8],
     before: Record,

