@@ -61,7 +61,13 @@ pub fn judge_chain(table: &[u8], b: &[u8]) -> Result<(), Refusal>
 // What an extension is refused by: table and chain, as judge_chain; 3 a full chain, or not the room of one link; 1 and 6 the draw value,
 // as check_value.
 #[tactic(auto, using(crate::proofs::Steps::behind_chain))]
-fn check_extension(table: &[u8], b: &[u8], number: u32, value: Element, room: usize) -> Result<(), Refusal>
+fn check_extension(
+    table: &[u8],
+    b: &[u8],
+    number: u32,
+    value: Element,
+    room: usize,
+) -> Result<(), Refusal>
     ensures { result ≡ outcome (extend_checks table.now b.now number value.0 room) tt }
 {
     judge_chain(table, b)?;

@@ -71,5 +71,6 @@ pub(crate) fn check_link(
     if figures.w0 != round {
         return Err(Refusal::NotNext);
     }
-    passed_if(digest == link_digest(before, value, figures.w0), Refusal::WrongDigest)
+    let right = link_digest(before, value, figures.w0);
+    passed_if(digest == right, Refusal::WrongDigest)
 }

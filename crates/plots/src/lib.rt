@@ -27,7 +27,14 @@ fn is_count(total: u32, count: u32) -> bool
 }
 
 // What a request is refused by: 6 the draw value; 15 the radius; 16 the figures N and k; 3 the room.
-fn check_pick(gr: Group, value: Element, radius: u32, total: u32, count: u32, room: usize) -> Result<(), Refusal>
+fn check_pick(
+    gr: Group,
+    value: Element,
+    radius: u32,
+    total: u32,
+    count: u32,
+    room: usize,
+) -> Result<(), Refusal>
     ensures { result ≡ outcome (pick_checks gr value radius total count room) tt }
 {
     if !is_element(gr, value) {

@@ -25,4 +25,4 @@ loop-i-preserved c =
     let h : l.i < n = omega arith in
     let s = map-length f (up_from 1 n) ∙ up-length 1 n in
     copied_next l.invariant (omega (arith, s))
-        (c.key.ensures ∙ sym (map_at f (up_from 1 n) l.i 0 0 (omega (arith, up-length 1 n)) ∙ ap f (up_at 1 n l.i h ∙ omega arith)))
+    (c.key.ensures ∙ sym (map_at f (up_from 1 n) l.i 0 0 (omega (arith, up-length 1 n)) ∙ ap f (up_at 1 n l.i h ∙ omega arith)))
