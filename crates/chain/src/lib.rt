@@ -4,13 +4,13 @@
 ghost use Rattle.std.specs.Prelude.{◌≡◌, ◌≤◌, ◌<◌, length};
 ghost use Rattle.words.specs.Checks.{outcome};
 ghost use Rattle.group.specs.Table.{groups_of};
-ghost use Rattle.chain.specs.Chain.{links_in, digest_after, links_checks, linked_checks, chain_checks, chain_outcome};
+ghost use Rattle.chain.specs.Chain.{links_in, digest_after, links_checks, linked_checks, chain_outcome};
 ghost use Rattle.chain.specs.Chain.{next_link, extend_checks, extend_outcome, lent_link};
 
 mod link;
 
 use group::{Element, check_table};
-use link::{link_digest, link_record, check_link, no_digest, check_value};
+use link::{check_link, check_value, link_digest, link_record};
 use words::{Record, Refusal, record_at, write_record};
 
 // The number of links.
@@ -22,24 +22,23 @@ fn links(b: &[u8]) -> usize
 
 // What the links are refused by, one after the other: 4, 1, 6, 19 and 18.
 // Internal: callers ensure that there are at most 1,024, and have judged the table.
+#[tactic(auto, using(crate::proofs::Steps::link_passed), unfolding(crate::specs::Chain::digest_after))]
 fn check_links(table: &[u8], b: &[u8]) -> Result<(), Refusal>
     requires { links_in b.now ≤ 1024 }
     ensures { result ≡ outcome (links_checks (groups_of table.now) b.now 0 (links_in b.now)) tt }
 {
-    let all = links(b);
-    let mut before = no_digest();
-    let mut i = 0;
-    while i < all {
+    let mut before = Record::ZERO;
+    for i in 0..links(b) {
         let digest = record_at(b, 2 * i + 1);
         check_link(table, before, i as u32 + 1, record_at(b, 2 * i), digest)?;
         before = digest;
-        i += 1;
     }
     Ok(())
 }
 
 // What a chain is refused by: 3 not whole links, or more than 1,024; 4, 1, 6, 19 and 18 link by link.
 // Internal: callers have judged the table.
+#[tactic(auto, unfolding(crate::specs::Chain::linked_checks))]
 fn check_linked(table: &[u8], b: &[u8]) -> Result<(), Refusal>
     ensures { result ≡ outcome (linked_checks (groups_of table.now) b.now) tt }
 {
@@ -49,31 +48,29 @@ fn check_linked(table: &[u8], b: &[u8]) -> Result<(), Refusal>
     check_links(table, b)
 }
 
-// What a chain is refused by: 3, 4, 20 and 21 the table, as check_table; then the chain, as check_linked.
-fn check_chain(table: &[u8], b: &[u8]) -> Result<(), Refusal>
-    ensures { result ≡ outcome (chain_checks table.now b.now) tt }
-{
-    check_table(table)?;
-    check_linked(table, b)
-}
-
 // Judges a chain. Refused: 3, 4, 20 and 21 the table, as check_table; 3 not whole links, or more than 1,024; then link by link 4 a spare
 // byte is not 0; 1 no group of that number; 6 the draw value is no element; 19 the round is not the next; 18 the digest is wrong. A chain of
 // no links passes.
 pub fn judge_chain(table: &[u8], b: &[u8]) -> Result<(), Refusal>
     ensures { result ≡ chain_outcome table.now b.now }
 {
-    check_chain(table, b)?;
-    Ok(())
+    check_table(table)?;
+    check_linked(table, b)
 }
 
-// What an extension is refused by: what table and chain are refused by; 3 a full chain, or not the room of one link; 1 and 6 the draw value.
-//.
-#[tactic(auto, using(crate::proofs::Steps::full_refused, crate::proofs::Steps::room_refused))]
-fn check_extension(table: &[u8], b: &[u8], number: u32, value: Element, room: usize) -> Result<(), Refusal>
+// What an extension is refused by: table and chain, as judge_chain; 3 a full chain, or not the room of one link; 1 and 6 the draw value,
+// as check_value.
+#[tactic(auto, using(crate::proofs::Steps::behind_chain))]
+fn check_extension(
+    table: &[u8],
+    b: &[u8],
+    number: u32,
+    value: Element,
+    room: usize,
+) -> Result<(), Refusal>
     ensures { result ≡ outcome (extend_checks table.now b.now number value.0 room) tt }
 {
-    check_chain(table, b)?;
+    judge_chain(table, b)?;
     if links(b) >= 1024 || room != 64 {
         return Err(Refusal::BadLength);
     }
@@ -81,12 +78,13 @@ fn check_extension(table: &[u8], b: &[u8], number: u32, value: Element, room: us
 }
 
 // The digest of the last link, or what stands for it in a chain of none.
+#[tactic(auto, unfolding(crate::specs::Chain::digest_after))]
 fn last_digest(b: &[u8]) -> Record
     ensures { result ≡ digest_after b.now (links_in b.now) }
 {
     let all = links(b);
     if all == 0 {
-        return no_digest();
+        return Record::ZERO;
     }
     record_at(b, 2 * all - 1)
 }
@@ -105,6 +103,7 @@ fn put_next(b: &[u8], number: u32, value: Element, out: &mut [u8])
 // Extends a chain by the draw value of the next season: writes the next link, of 64 bytes, over the lent output. Refused, with the output
 // unchanged: the numbers of judge_chain; 3 the chain is full, or the output is not of 64 bytes; 1 no group of that number; 6 the draw value
 // is no element.
+#[tactic(auto, unfolding(crate::specs::Chain::extend_outcome, crate::specs::Chain::lent_link))]
 pub fn extend_chain(
     table: &[u8],
     b: &[u8],

@@ -2,11 +2,11 @@
 ghost use Rattle.std.specs.Prelude.{◌≡◌};
 ghost use Rattle.words.specs.Checks.{outcome};
 ghost use Rattle.group.specs.Table.{groups_of};
-ghost use Rattle.chain.specs.Link.{link_layout, is_link_record, no_digest, link_digest, value_checks, link_checks};
+ghost use Rattle.chain.specs.Link.{link_layout, is_link_record, link_digest, value_checks, link_checks};
 
 use group::{Element, group_in, is_element};
 use sha256::digest;
-use words::{Record, Refusal, put_word, write_record};
+use words::{Record, Refusal, passed_if, put_word, write_record};
 
 // The figures of a link: the round, the draw value and the group's number.
 pub(crate) fn link_record(round: u32, value: Element, number: u32) -> Record
@@ -16,7 +16,7 @@ pub(crate) fn link_record(round: u32, value: Element, number: u32) -> Record
         w0: round,
         w1: value.0,
         w2: number,
-        ..Record::default()
+        ..Record::ZERO
     }
 }
 
@@ -26,13 +26,6 @@ fn is_link_record(r: Record) -> bool
     ensures { result ≡ is_link_record r }
 {
     r == link_record(r.w0, Element(r.w1), r.w2)
-}
-
-// What stands for a digest before the first link.
-pub(crate) fn no_digest() -> Record
-    ensures { result ≡ no_digest }
-{
-    Record::default()
 }
 
 // The digest of a link, behind the digest before it. A digest of 40 bytes is not refused.
@@ -54,17 +47,13 @@ pub(crate) fn link_digest(before: Record, value: Element, round: u32) -> Record
 pub(crate) fn check_value(table: &[u8], number: u32, value: Element) -> Result<(), Refusal>
     ensures { result ≡ outcome (value_checks (groups_of table.now) number value.0) tt }
 {
-    let Ok(gr) = group_in(table, number) else {
-        return Err(Refusal::UnknownGroup);
-    };
-    if !is_element(gr, value) {
-        return Err(Refusal::NoElement);
-    }
-    Ok(())
+    let gr = group_in(table, number)?;
+    passed_if(is_element(gr, value), Refusal::NoElement)
 }
 
 // What a link is refused by, as the link of this round behind this digest: 4 a spare byte; 1 and 6 the draw value, as check_value; 19 the
 // round; 18 the digest. Internal: callers have judged the table.
+#[tactic(auto, unfolding(words::specs::Bytes::agrees))]
 pub(crate) fn check_link(
     table: &[u8],
     before: Record,
@@ -82,8 +71,6 @@ pub(crate) fn check_link(
     if figures.w0 != round {
         return Err(Refusal::NotNext);
     }
-    if digest != link_digest(before, value, figures.w0) {
-        return Err(Refusal::WrongDigest);
-    }
-    Ok(())
+    let right = link_digest(before, value, figures.w0);
+    passed_if(digest == right, Refusal::WrongDigest)
 }

