@@ -32,7 +32,7 @@ use Rattle.dealing.specs.Dealing.{judge_size_checks, dealing_form_checks, recomp
 use Rattle.dealing.specs.Claims.{Line, PostedDealing, AcceptedDealing, DealingExactly, EquationRefused, DealingRefused, DealingOfOtherRound, AcceptedPasses, AcceptedUncarried}
 use Rattle.dealing.proofs.Settled.{FormedDealing, met-formed, formed-met}
 use Rattle.std.specs.Prelude.{Ok}
-use Rattle.words.specs.declared.refusal.Refusal.TheVariants.{OtherRound}
+use Rattle.words.specs.declared.refusal.Refusal.TheVariants.{DegreeFails, ProofFails, OtherRound}
 
 module _ (S : Setting) (d : ℕ) (ys b : List ℕ) where
   abbrev G : Group
@@ -128,10 +128,10 @@ module _ (S : Setting) (d : ℕ) (ys b : List ℕ) where
     unfolding equation_checks vs_in
     equations-refused =
         record {
-          nine = λ n. equations-decide ∙ (refused-exactly Unit equations tt 9).1 (inl (ne_eqb _ 1 n, refl));
+          nine = λ n. equations-decide ∙ (refused-exactly Unit equations tt DegreeFails).1 (inl (ne_eqb _ 1 n, refl));
           ten = λ e i h l n.
               equations-decide
-              ∙ (refused-exactly Unit equations tt 10).1 (inr (eq-eqb _ 1 e, inl (members-false equal_at S.n i h l (ne_eqb (c_in b i) _ n), refl)));
+              ∙ (refused-exactly Unit equations tt ProofFails).1 (inr (eq-eqb _ 1 e, inl (members-false equal_at S.n i h l (ne_eqb (c_in b i) _ n), refl)));
         }
 
   -- ---- accepted
@@ -178,9 +178,9 @@ dealing-of-other-round S d ys b before i h l n =
     let keys = key_checks S.group ys in
     let other = members-false (is_line_of_round S.round b) S.n i h l (ne_eqb (round_of (member_record b i)) S.round n) in
     let lines : FirstUnmet OtherRound (line_checks S d b) = inr (before.form, inl (other, refl)) in
-    let behind = rest-first keys (line_checks S d b) 17 before.keys lines in
-    let formed = rest-first front (keys ++ line_checks S d b) 17 before.front behind in
-    sym (front-outcome (dealing_form_checks S d ys b) (line_figure_checks S d ys b) 17 formed tt)
+    let behind = rest-first keys (line_checks S d b) OtherRound before.keys lines in
+    let formed = rest-first front (keys ++ line_checks S d b) OtherRound before.front behind in
+    sym (front-outcome (dealing_form_checks S d ys b) (line_figure_checks S d ys b) OtherRound formed tt)
 
 -- the figures' stage decides what is formed, on a board too, whose form and keys are judged
 pub figures-decide : (S : Setting) (d : ℕ) (ys b : List ℕ) → FormedDealing S d ys b

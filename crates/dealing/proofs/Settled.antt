@@ -1,5 +1,5 @@
 -- What met stages settle, as the functions that write and judge a dealing ask it, and as the claims say it.
-use mathlib.Core.Path.{◌≡◌, refl}
+use mathlib.Core.Path.{◌≡◌}
 use mathlib.Core.Bool.{true}
 use mathlib.Core.List.{List}
 use Prim.Native.Nat.{ℕ, ◌*◌, ◌≤◌}
@@ -7,10 +7,10 @@ use borrow.Author.Tests.{eqb-true}
 use lib.Dec.{eqb}
 use lib.ListN.{length}
 use Rattle.words.specs.Lists.{Below, all}
-use Rattle.words.specs.Checks.{refusal, Met}
+use Rattle.words.specs.Checks.{Met}
 use Rattle.words.proofs.Lists.{All-to}
 use Rattle.words.proofs.Tests.{and-true, true-equal, equal-true, all_true}
-use Rattle.words.proofs.Stages.{both-met, met-both, stage-met}
+use Rattle.words.proofs.Stages.{both-met, met-both}
 use Rattle.group.specs.Element.{is_exponent}
 use Rattle.group.proofs.Elements.{exponent-true}
 use Rattle.sharing.specs.Carried.{Polynomial}
@@ -45,10 +45,6 @@ module _ (S : Setting) (d : ℕ) (ys b : List ℕ) where
     (true-equal (length ys) S.n (length b) (32 * S.n) F.keys-size F.size, both-met (key_checks S.group ys) (line_checks S d b) F.keys F.lines),
   )
 
-  pub form-none : {k : ℕ} → k ≡ refusal (dealing_form_checks S d ys b) → k ≡ 0 → Met (dealing_form_checks S d ys b)
-  unfolding dealing_form_checks address_checks judge_size_checks key_checks line_checks
-  form-none e z = stage-met (dealing_form_checks S d ys b) e refl z
-
 -- ---- the writer: proper figures of a dealing
 pub record WritableDealing (S : Setting) (d : ℕ) (ys f ws : List ℕ) : Type 0 where
   pub dealer : (1 ≤ d) × (d ≤ S.n)
@@ -80,7 +76,3 @@ module _ (S : Setting) (d : ℕ) (ys f ws : List ℕ) (room : ℕ) where
         },
         three.1,
       )
-
-  pub write-none : {k : ℕ} → k ≡ refusal (write_dealing_checks S d ys f ws room) → k ≡ 0 → Met (write_dealing_checks S d ys f ws room)
-  unfolding address_checks write_size_checks key_checks secret_checks
-  write-none e z = stage-met (write_dealing_checks S d ys f ws room) e refl z

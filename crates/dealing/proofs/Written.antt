@@ -42,6 +42,7 @@ use Rattle.dealing.proofs.Settled.{WritableDealing, writable}
 use Rattle.dealing.proofs.Judged.{accepts-dealing, posted-formed, dealing-of-other-round}
 use Rattle.std.specs.Prelude.{Ok, Err}
 use Rattle.words.specs.declared.refusal.Refusal.TheVariants.{OtherRound}
+use Rattle.words.specs.declared.refusal.Refusal.{Refusal}
 
 pub value-writable : (S : Setting) (d : ℕ) (ys f ws : List ℕ) (room : ℕ) → write_dealing_in S d ys f ws room ≡ Ok tt → WritableDealing S d ys f ws
 unfolding write_dealing_in
@@ -226,7 +227,7 @@ lent-dealing-kept S d ys f ws out k e =
 
 -- ---- over a round
 -- a refusal over a round leaves the lent bytes
-refused-kept : (T : List ℕ) (R : Round) (checks : Setting → List Check) (new : Setting → List ℕ) (old : List ℕ) (k : ℕ)
+refused-kept : (T : List ℕ) (R : Round) (checks : Setting → List Check) (new : Setting → List ℕ) (old : List ℕ) (k : Refusal)
     → judged T R checks (λ S. tt {0}) ≡ Err k → judged_else T R checks new old ≡ old
 unfolding judged judged_else
 refused-kept T R checks new old k e =

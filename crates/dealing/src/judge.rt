@@ -27,6 +27,7 @@ fn sizes_fit(n: u32, ys: &[u32], lines: &[u8]) -> bool
 }
 
 // The first number refused before the figures, of 8, 3, 6 and 22 for keys, 4 and 17.
+#[tactic(auto, unfolding(crate::specs::Dealing::dealing_form_checks, crate::specs::Dealing::judge_size_checks, lines::specs::Lines::address_checks, lines::specs::Lines::line_checks, records::specs::Keys::key_checks))]
 fn check_form(s: Setting, d: u32, ys: &[u32], lines: &[u8]) -> Result<(), Refusal>
     ensures { result ≡ outcome (dealing_form_checks s d ys.now lines.now) tt }
 {
@@ -98,6 +99,7 @@ fn check_ranges(
 }
 
 // Judges figures: 6 for a v or Y, 7, 9 and 10. Internal: callers ensure a proper setting, a dealer at most n, and n keys.
+#[tactic(auto, unfolding(crate::specs::Dealing::range_checks, crate::specs::Dealing::equation_checks))]
 fn judge_figures(s: Setting, d: u32, ys: &[u32], figures: Columns) -> Result<(), Refusal>
     requires { (ProperSetting s) × (d ≤ s.n) × (length ys.now ≡ s.n) }
     ensures { result ≡ outcome (column_checks s d ys.now figures) tt }

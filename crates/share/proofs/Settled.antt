@@ -9,7 +9,7 @@ use borrow.Author.Tests.{eqb-true, eq-eqb, leb-true, ltb-true}
 use lib.Dec.{leb, eqb}
 use lib.ListN.{length}
 use Rattle.words.specs.Choice.{pick}
-use Rattle.words.specs.Checks.{refusal, Met}
+use Rattle.words.specs.Checks.{Met, outcome}
 use Rattle.words.specs.Bytes.{record_bytes, record_in}
 use Rattle.words.specs.declared.Record.{Record}
 use Rattle.words.proofs.Tests.{and-true, true-and, equal-true, true-equal}
@@ -27,6 +27,7 @@ use Rattle.challenge.specs.Message.{challenge_of, share_message}
 use Rattle.equality.specs.Equality.{response}
 use Rattle.share.specs.declared.ShareForm.{ShareForm}
 use Rattle.share.specs.Share.{is_dealer, key_of, share_of, written_share_c, written_share_record, written_share, members_checks, write_share_checks, share_input_checks, share_form_checks, share_admission_checks, share_figure_checks}
+use Rattle.std.specs.Prelude.{Ok}
 use Rattle.share.specs.Claims.{NumbersByForm, AdmittedShare, ShareHolds, ShareUpToRound}
 
 -- ---- dealer and member
@@ -93,9 +94,8 @@ module _ (S : Setting) (F : ShareForm) (i y Y : ℕ) (b : List ℕ) where
             both-met (numbers ++ inputs) form (both-met numbers inputs s.numbers s.inputs) (s.form, (eq-eqb (round_of r) S.round A.round, tt)),
       )
 
-  pub admission-none : {k : ℕ} → k ≡ refusal (share_admission_checks S F i y Y b) → k ≡ 0 → AdmittedShare S F i y Y b (record_in b)
-  unfolding share_admission_checks members_checks share_input_checks share_form_checks
-  admission-none e z = admission-exactly.0 (stage-met (share_admission_checks S F i y Y b) e refl z)
+  pub admission-none : Ok tt ≡ outcome (share_admission_checks S F i y Y b) (tt {0}) → AdmittedShare S F i y Y b (record_in b)
+  admission-none e = admission-exactly.0 (stage-met (share_admission_checks S F i y Y b) e)
 
 -- ---- the figures
 pub figures-exactly : (S : Setting) (F : ShareForm) (i y Y : ℕ) (r : Record) → Met (share_figure_checks S F i y Y r) ↔ ShareHolds S F i y Y r
@@ -144,10 +144,6 @@ module _ (S : Setting) (F : ShareForm) (i Y x w room : ℕ) where
         x-low = ltb-true x S.group.q secret.1;
         w-low = exponent-true S.group w low.1;
       }
-
-  pub write-none : {k : ℕ} → k ≡ refusal (write_share_checks S F i Y x w room) → k ≡ 0 → Met (write_share_checks S F i Y x w room)
-  unfolding write_share_checks members_checks
-  write-none e z = stage-met (write_share_checks S F i Y x w room) e refl z
 
 -- ---- what is written
 pub share-bytes : (S : Setting) (F : ShareForm) (i Y x w : ℕ) {k Z y a1 a2 c r : ℕ}

@@ -63,8 +63,8 @@ share-of-other-round S F i y Y b before n =
     let inputs = share_input_checks S.group y Y b in
     let round : FirstUnmet OtherRound (share_form_checks S.round F i r) = inr (before.form, inl (ne_eqb (round_of r) S.round n, refl)) in
     let met = both-met numbers inputs before.numbers before.inputs in
-    let front = rest-first (numbers ++ inputs) (share_form_checks S.round F i r) 17 met round in
-    sym (front-outcome (share_admission_checks S F i y Y b) (share_figure_checks S F i y Y r) 17 front (record { 0 = Z_of r }))
+    let front = rest-first (numbers ++ inputs) (share_form_checks S.round F i r) OtherRound met round in
+    sym (front-outcome (share_admission_checks S F i y Y b) (share_figure_checks S F i y Y r) OtherRound front (record { 0 = Z_of r }))
 
 pub figures-decide : FiguresDecide
 unfolding judge_share_in judge_share_figures_in

@@ -22,6 +22,7 @@ fn is_share_of(form: ShareForm, i: u32, share: Record) -> bool
 }
 
 // The first number refused of all that comes before the figures: 8, 3, 6 for y or the encrypted share, 4 and 17.
+#[tactic(auto, unfolding(crate::specs::Share::share_admission_checks, crate::specs::Share::members_checks, crate::specs::Share::share_input_checks, crate::specs::Share::share_form_checks))]
 fn check_admission(s: Setting, e: EncryptedShare, y: Element, b: &[u8]) -> Result<(), Refusal>
     ensures { result ≡ outcome (share_admission_checks s e.form e.member y.0 e.encrypted.0 b.now) tt }
 {
@@ -70,6 +71,7 @@ fn recomputed(s: Setting, e: EncryptedShare, y: Element, share: Record) -> Expon
 // share. Refused: 6 it is no element; 7 c or r is not below q; 10 c is not the recomputed one.
 // Internal: callers ensure that the setting is proper, and a dealer and a member at most n; and where it is to be the whole
 // judgement, all that check_admission tests.
+#[tactic(auto, unfolding(crate::specs::Share::judge_share_figures_in, crate::specs::Share::share_figure_checks))]
 pub fn judge_share_figures(
     s: Setting,
     e: EncryptedShare,

@@ -15,6 +15,7 @@ use sharing::{Round, Setting, setting_of};
 use words::Refusal;
 
 // The first number refused in a setting,.
+#[tactic(auto, unfolding(crate::specs::Share::write_share_checks, crate::specs::Share::members_checks))]
 fn check_writing(s: Setting, e: EncryptedShare, x: Exponent, w: Exponent, room: usize) -> Result<(), Refusal>
     ensures { result ≡ outcome (write_share_checks s e.form e.member e.encrypted.0 x.0 w.0 room) tt }
 {

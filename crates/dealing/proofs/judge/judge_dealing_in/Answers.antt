@@ -1,25 +1,44 @@
 -- `judge_dealing_in` meets its contract: the form decides where it refuses, and else the figures.
-use mathlib.Core.Path.{◌∙◌}
-use Rattle.words.proofs.Stages.{stage-refused}
+use mathlib.Core.Path.{◌≡◌, sym, ◌∙◌}
+use mathlib.Core.List.{List}
+use Rattle.std.proofs.Common.{rules}
+use Rattle.std.specs.Prelude.{Err}
+use Rattle.words.specs.Checks.{Check}
+use Rattle.words.proofs.Checks.{value-met, value-exactly, refused-exactly}
+use Rattle.words.proofs.Stages.{stage-met, stage-refused}
+use Rattle.lines.specs.declared.Columns.{Columns}
 use Rattle.dealing.specs.Dealing.{dealing_form_checks, line_figure_checks, judge_dealing_in}
-use Rattle.dealing.proofs.Settled.{FormedDealing, met-formed, form-none}
+use Rattle.dealing.proofs.Settled.{met-formed}
 use Rattle.dealing.proofs.Judged.{figures-decide}
 use Rattle.dealing.proofs.judge.judge_dealing_in.Goals as goal
 
-pub returns-then-k-ne0 : goal.returns-then-k-ne0
+pub returns-in_err-check_form : goal.returns-in_err-check_form
 unfolding judge_dealing_in
-returns-then-k-ne0 c =
-    stage-refused (dealing_form_checks _ _ _ _) c.check_form-k.ensures (line_figure_checks _ _ _ _) c.if-k-ne0.true tt
+returns-in_err-check_form c =
+    let a = c.args in
+    let h : Err c.in_err-check_form.field-0.0 ≡ judge_dealing_in a.s a.d a.ys.now a.lines.now =
+    stage-refused (dealing_form_checks _ _ _ _) (line_figure_checks _ _ _ _) c.in_err-check_form.ensures tt in
+    search rules
 
 pub judge_lines-requires : goal.judge_lines-requires
 judge_lines-requires c =
-    let formed : let a = c.args in FormedDealing a.s a.d a.ys.now a.lines.now =
-    met-formed _ _ _ _ (form-none _ _ _ _ c.check_form-k.ensures c.if-k-ne0.false) in
-    let F = formed in
+    let a = c.args in
+    let F = met-formed a.s a.d a.ys.now a.lines.now (stage-met (dealing_form_checks _ _ _ _) c.in_ok-check_form.ensures) in
     (c.requires, F.dealer.1, F.keys-size, F.size)
+
+pub returns-in_err-judge_lines : goal.returns-in_err-judge_lines
+returns-in_err-judge_lines c =
+    let a = c.args in
+    let F = met-formed a.s a.d a.ys.now a.lines.now (stage-met (dealing_form_checks _ _ _ _) c.in_ok-check_form.ensures) in
+    let cs : List Check = line_figure_checks a.s a.d a.ys.now a.lines.now in
+    let k = c.in_err-judge_lines.field-0.0 in
+    let first = (refused-exactly Columns cs _ k).0 (sym c.in_err-judge_lines.ensures) in
+    let h : Err k ≡ judge_dealing_in a.s a.d a.ys.now a.lines.now = sym ((refused-exactly Unit cs tt k).1 first) ∙ figures-decide _ _ _ _ F in
+    search rules
 
 pub returns : goal.returns
 returns c =
-    let formed : let a = c.args in FormedDealing a.s a.d a.ys.now a.lines.now =
-    met-formed _ _ _ _ (form-none _ _ _ _ c.check_form-k.ensures c.if-k-ne0.false) in
-    c.judge_lines.ensures.answer_value ∙ figures-decide _ _ _ _ formed
+    let a = c.args in
+    let F = met-formed a.s a.d a.ys.now a.lines.now (stage-met (dealing_form_checks _ _ _ _) c.in_ok-check_form.ensures) in
+    let cs : List Check = line_figure_checks a.s a.d a.ys.now a.lines.now in
+    sym ((value-exactly Unit cs tt).1 (value-met cs _ _ (sym c.in_ok-judge_lines.ensures)).0) ∙ figures-decide _ _ _ _ F
