@@ -170,8 +170,8 @@ answers-elements T R b =
     let G : Group = S.group in
     record {
       secrets = λ A j.
-          subst (All (AtPlace G)) (sym j.verdicts)
-          (either_way (All (AtPlace G)) (round_checks T R ++ board_checks S b) (verdict_places (verdict_on judges S b) S.n) no_verdicts
+          subst (All (SecretElement G)) (sym j.verdicts)
+          (either_way (All (SecretElement G)) (round_checks T R ++ board_checks S b) (verdict_places (verdict_on judges S b) S.n) no_verdicts
           (λ m.
           let s = met-both (round_checks T R) (board_checks S b) m in
           each-place G (verdict_on judges S b) S.n (elements T R b s.0 s.1).secret)
