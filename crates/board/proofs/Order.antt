@@ -226,7 +226,7 @@ other-round S b (suc m) i zero h k e n =
 other-round S b (suc m) i (suc j) h k e n =
     let step : suc i + j ≡ i + suc j = omega arith in
     let s = met-both (one_record_checks S b i) (record_checks S b (suc i) j) k in
-    rest-first (one_record_checks S b i) (record_checks S b (suc i) m) 17 s.0
+    rest-first (one_record_checks S b i) (record_checks S b (suc i) m) OtherRound s.0
     (other-round S b m (suc i) j (le_of_suc-le-suc h) s.1 (ap (λ (x : ℕ). is_shaped S.n (record_at b x)) step ∙ e)
     (λ f. n (ap (λ (x : ℕ). round_of (record_at b x)) (sym step) ∙ f)))
 
@@ -235,5 +235,5 @@ unfolding form_checks
 board-of-other-round S b i h m e n =
     let s = met-both (length_checks b) (record_checks S b 0 i) m in
     let same : record_at b (0 + i) ≡ record_at b i = let z : 0 + i ≡ i = omega arith in ap (record_at b) z in
-    rest-first (length_checks b) (record_checks S b 0 (records_in b)) 17 s.0
+    rest-first (length_checks b) (record_checks S b 0 (records_in b)) OtherRound s.0
     (other-round S b (records_in b) 0 i h s.1 (ap (is_shaped S.n) same ∙ e) (λ f. n (ap round_of (sym same) ∙ f)))

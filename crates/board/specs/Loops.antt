@@ -8,6 +8,7 @@ use Rattle.sharing.specs.Setting.{members}
 use Rattle.sharing.specs.declared.Setting.{Setting}
 use Rattle.records.specs.Layout.{is_of_round}
 use Rattle.board.specs.Board.{is_shaped, is_above, has_key, keys_in}
+use Rattle.words.specs.declared.refusal.Refusal.TheVariants.{BadForm, OutOfOrder, OtherRound}
 
 -- what stands before the first record: no kind is 0, so every record of the table is above it
 abbrev pub no_record : Record
