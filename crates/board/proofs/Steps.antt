@@ -1,6 +1,6 @@
 -- The turns of the loop over a board's records: what the checks from the record i on come to, by those of the record i behind the one before
 -- and those from the next on. n is the number of records.
-use mathlib.Core.Path.{◌≡◌, refl, sym, ap, ◌∙◌}
+use mathlib.Core.Path.{◌≡◌, sym, ap, ◌∙◌}
 use mathlib.Core.Bool.{Bool, true}
 use mathlib.Core.List.{List, ◌++◌}
 use Prim.Native.Nat.{ℕ, zero, suc, ◌+◌, ◌-◌, ◌<◌}
@@ -15,8 +15,8 @@ use Rattle.words.proofs.Tests.{pick_same}
 use Rattle.sharing.specs.declared.Setting.{Setting}
 use Rattle.records.specs.Layout.{is_of_round}
 use Rattle.board.specs.Board.{is_shaped, is_above, in_order, one_record_checks, record_checks}
-use Rattle.board.specs.Loops.{no_record, next_record_checks}
-use Rattle.board.proofs.Order.{shaped-above, order-next}
+use Rattle.board.specs.Loops.{next_record_checks}
+use Rattle.board.proofs.Order.{no_record, shaped-above, order-next}
 
 -- the record before the record i
 abbrev pub record_before : List ℕ → ℕ → Record

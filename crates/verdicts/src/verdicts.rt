@@ -1,6 +1,6 @@
 // How the secret of an accepted dealing came, and a dealer's verdict.
-ghost use Rattle.std.specs.Prelude.{◌≡◌, ◌&&◌, ltb};
-ghost use Rattle.words.specs.Checks.{Met, is_value};
+ghost use Rattle.std.specs.Prelude.{◌≡◌, ◌&&◌, ltb, is_ok};
+ghost use Rattle.words.specs.Checks.{Met};
 ghost use Rattle.words.specs.Bytes.{records_in, record_at};
 ghost use Rattle.sharing.specs.Setting.{ProperSetting};
 ghost use Rattle.sharing.specs.Answer.{opening_in};
@@ -38,7 +38,7 @@ fn from_shares(s: Setting, b: &[u8], d: u32, encrypted: &[u32]) -> Secret
 // Internal: callers ensure that the setting is proper and that vs are n elements.
 fn opened_at(s: Setting, b: &[u8], at: usize, vs: &[u32]) -> bool
     requires { (ProperSetting s) × (Commitments s vs.now) }
-    ensures { result ≡ ltb at (records_in b.now) && is_value (opening_in s vs.now (u_of (record_at b.now at))) }
+    ensures { result ≡ ltb at (records_in b.now) && is_ok (opening_in s vs.now (u_of (record_at b.now at))) }
 {
     if at >= record_count(b) {
         return false;

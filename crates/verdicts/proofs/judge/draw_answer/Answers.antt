@@ -5,9 +5,6 @@ use borrow.Author.Tests.{le-leb, lt-leb}
 use Rattle.verdicts.specs.Shares.{from_lowest}
 use Rattle.verdicts.proofs.judge.draw_answer.Goals as goal
 
-pub returns-then-accepted-s : goal.returns-then-accepted-s
-returns-then-accepted-s c = simp (lt-leb _ _ c.if-accepted-s.true)
-
 pub returns : goal.returns
 unfolding from_lowest
 returns c = let is : c.args.stuck ≡ true = assumption in simp (le-leb _ _ c.if-accepted-s.false, is) c.added_draw.ensures

@@ -9,21 +9,12 @@ use Rattle.records.specs.Layout.{u_of}
 use Rattle.verdicts.proofs.Secrets.{opening-high, opening-equal}
 use Rattle.verdicts.proofs.verdicts.opened_at.Goals as goal
 
-pub returns-then-at-record_count : goal.returns-then-at-record_count
-returns-then-at-record_count c =
-    let a = c.args in
-    let none : records_in a.b.now ≤ a.at = omega (arith, c.if-at-record_count.true, c.record_count.ensures) in
-    simp (le-ltb a.at _ none)
-
 pub returns-else-is_exponent : goal.returns-else-is_exponent
 returns-else-is_exponent c =
     let a = c.args in
     c.if-is_exponent.false
     ∙ opening-high a.s a.vs.now c.requires.1 a.b.now a.at (omega (arith, c.if-at-record_count.false, c.record_count.ensures))
     (ap (λ (x : Record). u_of x) c.record_at.ensures) (sym c.is_exponent.ensures ∙ c.if-is_exponent.false)
-
-pub opens-requires : goal.opens-requires
-opens-requires c = (c.requires.0, c.requires.1.size)
 
 pub returns-then-is_exponent : goal.returns-then-is_exponent
 returns-then-is_exponent c =
