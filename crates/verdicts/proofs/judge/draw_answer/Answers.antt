@@ -1,7 +1,7 @@
 -- `draw_answer` meets its contract: the two tests in their order, and then the added shares.
 use mathlib.Core.Path.{◌≡◌}
 use mathlib.Core.Bool.{true}
-use borrow.Author.Tests.{le-leb, lt-leb}
+use borrow.Author.Tests.{le-leb}
 use Rattle.verdicts.specs.Shares.{from_lowest}
 use Rattle.verdicts.proofs.judge.draw_answer.Goals as goal
 
