@@ -23,6 +23,7 @@ use Rattle.board.specs.Board.{key_place, has_key, key_in, keys_in, form_checks, 
 use Rattle.board.specs.Loops.{found_keys}
 use Rattle.board.specs.Claims.{KeysExact, BoardKeyTwice}
 use Rattle.board.proofs.Order.{reached, shapes, sorted}
+use Rattle.words.specs.declared.refusal.Refusal.TheVariants.{SameKey}
 use Rattle.board.proofs.Places.{at_true, true-at, record_is, only-record}
 
 -- the keys are found exactly where every member has one
@@ -68,4 +69,4 @@ keys-exact S b c m h l =
 pub board-key-twice : BoardKeyTwice
 unfolding board_checks board_key_checks
 board-key-twice S b m e T =
-    rest-first (form_checks S b) (board_key_checks S b) 22 m (inr (e, (equal-keys S.group (keys_in S.n b)).1 T))
+    rest-first (form_checks S b) (board_key_checks S b) SameKey m (inr (e, (equal-keys S.group (keys_in S.n b)).1 T))

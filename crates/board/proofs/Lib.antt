@@ -6,4 +6,3 @@ pub mod Chunks
 pub mod KeyRecords
 pub mod LineRun
 pub mod Steps
-pub mod Numbers

@@ -24,7 +24,6 @@ use Rattle.records.specs.Layout.{key_kind, line_kind, opening_kind, share_kind, 
 use Rattle.records.specs.Layout.{is_key_record, is_line_record, is_opening_record, is_share_record}
 use Rattle.records.specs.Keys.{key_checks}
 use Rattle.board.specs.Board.{is_shaped, is_below, is_above, in_order, one_record_checks, record_checks, length_checks, form_checks, has_key, keys_in, board_key_checks, board_checks}
-use Rattle.board.specs.Loops.{no_record}
 use Rattle.board.specs.Sorted.{Sorted}
 use Rattle.board.specs.Claims.{RecordsOfRound, BoardOfOtherRound}
 use Rattle.words.specs.declared.refusal.Refusal.TheVariants.{OtherRound}
@@ -141,7 +140,10 @@ module _ (r : Record) (k d m : ℕ) where
   below-member (by-dealer g h) e f = absurd (omega arith)
   below-member (by-member g i h) e f = h
 
--- a record of the table is above the one of kind 0
+-- what stands before the first record: no kind is 0, so every record of the table is above it
+abbrev pub no_record : Record
+no_record = record { w0 = 0; w1 = 0; w2 = 0; w3 = 0; w4 = 0; w5 = 0; w6 = 0; w7 = 0 }
+
 pub shaped-above : (n : ℕ) (r : Record) → is_shaped n r ≡ true → is_above no_record r ≡ true
 shaped-above n r e = true_below no_record r.w0 r.w1 r.w2 (by_kind (shaped-true n r e).known)
 
@@ -226,7 +228,7 @@ other-round S b (suc m) i zero h k e n =
 other-round S b (suc m) i (suc j) h k e n =
     let step : suc i + j ≡ i + suc j = omega arith in
     let s = met-both (one_record_checks S b i) (record_checks S b (suc i) j) k in
-    rest-first (one_record_checks S b i) (record_checks S b (suc i) m) 17 s.0
+    rest-first (one_record_checks S b i) (record_checks S b (suc i) m) OtherRound s.0
     (other-round S b m (suc i) j (le_of_suc-le-suc h) s.1 (ap (λ (x : ℕ). is_shaped S.n (record_at b x)) step ∙ e)
     (λ f. n (ap (λ (x : ℕ). round_of (record_at b x)) (sym step) ∙ f)))
 
@@ -235,5 +237,5 @@ unfolding form_checks
 board-of-other-round S b i h m e n =
     let s = met-both (length_checks b) (record_checks S b 0 i) m in
     let same : record_at b (0 + i) ≡ record_at b i = let z : 0 + i ≡ i = omega arith in ap (record_at b) z in
-    rest-first (length_checks b) (record_checks S b 0 (records_in b)) 17 s.0
+    rest-first (length_checks b) (record_checks S b 0 (records_in b)) OtherRound s.0
     (other-round S b (records_in b) 0 i h s.1 (ap (is_shaped S.n) same ∙ e) (λ f. n (ap round_of (sym same) ∙ f)))

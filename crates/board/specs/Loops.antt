@@ -8,10 +8,7 @@ use Rattle.sharing.specs.Setting.{members}
 use Rattle.sharing.specs.declared.Setting.{Setting}
 use Rattle.records.specs.Layout.{is_of_round}
 use Rattle.board.specs.Board.{is_shaped, is_above, has_key, keys_in}
-
--- what stands before the first record: no kind is 0, so every record of the table is above it
-abbrev pub no_record : Record
-no_record = record { w0 = 0; w1 = 0; w2 = 0; w3 = 0; w4 = 0; w5 = 0; w6 = 0; w7 = 0 }
+use Rattle.words.specs.declared.refusal.Refusal.TheVariants.{BadForm, OutOfOrder, OtherRound}
 
 -- the record r behind the record q: 4 a shape that is none of the table's, 17 another round, 5 not above q
 abbrev pub next_record_checks : Setting → Record → Record → List Check

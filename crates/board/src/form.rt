@@ -3,7 +3,7 @@ ghost use Rattle.std.specs.Prelude.{◌≡◌};
 ghost use Rattle.words.specs.Checks.{outcome};
 ghost use Rattle.words.specs.Bytes.{records_in};
 ghost use Rattle.board.specs.Board.{is_shaped, is_below, record_checks, form_checks};
-ghost use Rattle.board.specs.Loops.{no_record, next_record_checks};
+ghost use Rattle.board.specs.Loops.{next_record_checks};
 
 use crate::search::record_count;
 use records::{ADDED, KEY, LINE, OPENING, SHARE, is_key_record, is_line_record, is_of_round, is_opening_record, is_share_record};
@@ -32,22 +32,6 @@ pub(crate) fn is_below(r: Record, k: u32, d: u32, m: u32) -> bool
     (r.w0, r.w1, r.w2) < (k, d, m)
 }
 
-// What stands before the first record: of kind 0, it is below every record of the table.
-fn no_record() -> Record
-    ensures { result ≡ no_record }
-{
-    Record {
-        w0: 0,
-        w1: 0,
-        w2: 0,
-        w3: 0,
-        w4: 0,
-        w5: 0,
-        w6: 0,
-        w7: 0,
-    }
-}
-
 // What the record r is refused by behind the record before: 4 it is none of the table; 17 it is of another round; 5 it is not above the one
 // before.
 fn check_record(s: Setting, before: Record, r: Record) -> Result<(), Refusal>
@@ -65,23 +49,23 @@ fn check_record(s: Setting, before: Record, r: Record) -> Result<(), Refusal>
     Ok(())
 }
 
-// What the records are refused by, one after the other: 4, 17 and 5.
+// What the records are refused by, one after the other: 4, 17 and 5. Of kind 0, what stands before the first is below every record of the
+// table.
+#[tactic(auto, using(crate::proofs::Steps::records_turn, crate::proofs::Steps::before_next))]
 fn check_records(s: Setting, b: &[u8]) -> Result<(), Refusal>
     ensures { result ≡ outcome (record_checks s b.now 0 (records_in b.now)) tt }
 {
-    let all = record_count(b);
-    let mut before = no_record();
-    let mut i = 0;
-    while i < all {
+    let mut before = Record::ZERO;
+    for i in 0..record_count(b) {
         let r = record_at(b, i);
         check_record(s, before, r)?;
         before = r;
-        i += 1;
     }
     Ok(())
 }
 
 // What the form of a board is refused by: 3 not whole records or more than 2,048; 4, 17 and 5 record by record.
+#[tactic(auto, unfolding(crate::specs::Board::form_checks))]
 pub(crate) fn check_form(s: Setting, b: &[u8]) -> Result<(), Refusal>
     ensures { result ≡ outcome (form_checks s b.now) tt }
 {

@@ -23,6 +23,7 @@ pub fn lines_of(b: &[u8], d: u32) -> &[u8]
 }
 
 // What the lines of dealer d are refused by: 8 d is no member; 3, 4, 17 and 5 the board's form.
+#[tactic(auto, unfolding(crate::specs::Board::lines_checks))]
 fn check_lines(s: Setting, d: u32, b: &[u8]) -> Result<(), Refusal>
     ensures { result ≡ outcome (lines_checks s d b.now) tt }
 {

@@ -114,7 +114,7 @@ opening-decided : (S : Setting) (vs : List ℕ) (u : ℕ) → Commitments S vs �
 unfolding opening_in opening_figures opening_equation
 opening-decided S vs u C = simp (eq-eqb (length vs) S.n C.size, C.elements) (by-test (is_exponent S.group u) (is_opening S vs u))
   where
-    by-test : (x y : Bool) → is_ok {A = Unit {0}} (pick x (pick y (Ok tt) (Err WrongOpening)) (Err NoExponent)) ≡ x && y
+    by-test : (x y : Bool) → is_ok {T = Unit {0}} (pick x (pick y (Ok tt) (Err WrongOpening)) (Err NoExponent)) ≡ x && y
     by-test true true = refl
     by-test true false = refl
     by-test false y = refl
@@ -199,13 +199,7 @@ module _ (S : Setting) (b : List ℕ) (d : ℕ) where
       ∙ sym (pick_true (is_opened S b d) _ (from_shares J S b d) e)
 
   -- by what recovery answers for them
-  module _ {F : ShareForm} (f : F ≡ opened_form d) {Ys : List ℕ} (Y : Ys ≡ encrypted_of S b d) (a : Outcome Element) (e : a ≡ from_lowest S b (shares_in judges S b F Ys)) where
-    from_told : (o : Outcome Element) → a ≡ o → secret_from o ≡ from_shares judges S b d
-    unfolding from_shares
-    from_told o r = ap secret_from (sym r ∙ e ∙ (λ j. from_lowest S b (shares_in judges S b (f j) (Y j))))
-
-    pub from-refused : {k : Refusal} → a ≡ Err k → Stuck ≡ from_shares judges S b d
-    from-refused {k} r = from_told (Err k) (ap r)
-
-    pub from-value : {v : Element} → a ≡ Ok v → Recovered v ≡ from_shares judges S b d
-    from-value {v} r = from_told (Ok v) (ap r)
+  pub from_told : {F : ShareForm} → F ≡ opened_form d → {Ys : List ℕ} → Ys ≡ encrypted_of S b d → (o : Outcome Element) → o ≡ from_lowest S b (shares_in judges S b F Ys)
+      → secret_from o ≡ from_shares judges S b d
+  unfolding from_shares
+  from_told f Y o e = ap secret_from (e ∙ (λ j. from_lowest S b (shares_in judges S b (f j) (Y j))))

@@ -9,11 +9,14 @@ use lib.ListN.{length}
 use lib.Dec.{eqb}
 use Rattle.words.specs.Checks.{Outcome, Met, outcome}
 use Rattle.words.specs.Bytes.{records_in}
+use Rattle.words.proofs.Checks.{value-met, value-exactly, refused-exactly}
 use Rattle.words.proofs.Lists.{map-length, up-length}
 use Rattle.words.proofs.Tests.{true-and, true-equal, pick_true, pick-false}
 use Rattle.sharing.specs.Setting.{ProperSetting, members}
 use Rattle.sharing.specs.declared.Setting.{Setting}
 use Rattle.sharing.proofs.EachMember.{members-exactly}
+use Rattle.lines.specs.Columns.{columns_of}
+use Rattle.lines.specs.declared.Columns.{Columns}
 use Rattle.lines.specs.Lines.{is_line_for, is_line_of, is_line_of_round, line_checks}
 use Rattle.dealing.specs.Dealing.{line_figure_checks, judge_dealing_in}
 use Rattle.dealing.proofs.Settled.{FormedDealing}
@@ -102,12 +105,23 @@ module _ (S : Setting) (b : List ℕ) (d : ℕ) (P : ProperSetting S) (m : Met (
         decided : outcome (line_figure_checks S d ys lines) tt ≡ dealing_answer judges S b d
         decided = figures-decide S d ys lines lines-formed ∙ (λ i. judge_dealing_in S d (y i) (e i))
 
-        module _ {a : Outcome Unit} (j : a ≡ outcome (line_figure_checks S d ys lines) tt) where
-          pub judge-refuses : {i : Refusal} → a ≡ Err i → Refused i ≡ verdict_on judges S b d
-          judge-refuses r = told (ap (sym r) ∙ j ∙ decided)
+        pub judge-refuses : {i : Refusal} → Err i ≡ outcome (line_figure_checks S d ys lines) (columns_of S.n lines) → Refused i ≡ verdict_on judges S b d
+        judge-refuses {i} j =
+            let u = (refused-exactly Columns (line_figure_checks S d ys lines) (columns_of S.n lines) i).0 (sym j) in
+            told (sym ((refused-exactly Unit (line_figure_checks S d ys lines) tt i).1 u) ∙ decided)
 
-          pub all_lines : a ≡ (Ok tt) → LinesOn S b d
-          all_lines r = record { proper = P; reached = m; accepted = sym (ap (sym r) ∙ j ∙ decided) }
+        module _ {figures : Columns} (j : Ok figures ≡ outcome (line_figure_checks S d ys lines) (columns_of S.n lines)) where
+          given : Met (line_figure_checks S d ys lines) × (columns_of S.n lines ≡ figures)
+          given = value-met (line_figure_checks S d ys lines) (columns_of S.n lines) figures (sym j)
 
-          pub dealing-accepted : a ≡ (Ok tt) → {s : Secret} → s ≡ secret_by judges S b d → Accepted s ≡ verdict_on judges S b d
-          dealing-accepted r h = ap Accepted h ∙ told (ap (sym r) ∙ j ∙ decided)
+          passes : Ok tt ≡ dealing_answer judges S b d
+          passes = sym ((value-exactly Unit (line_figure_checks S d ys lines) tt).1 given.0) ∙ decided
+
+          pub all_lines : LinesOn S b d
+          all_lines = record { proper = P; reached = m; accepted = sym passes }
+
+          pub figures-are : figures ≡ columns_of S.n (lines_of b d)
+          figures-are = sym given.1 ∙ ap (columns_of S.n) e
+
+          pub dealing-accepted : {s : Secret} → s ≡ secret_by judges S b d → Accepted s ≡ verdict_on judges S b d
+          dealing-accepted h = ap Accepted h ∙ told passes

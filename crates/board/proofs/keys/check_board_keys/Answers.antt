@@ -2,7 +2,7 @@
 use mathlib.Core.Path.{sym, ap, ◌∙◌}
 use mathlib.Core.List.{List}
 use Prim.Native.Nat.{ℕ}
-use Rattle.words.specs.Checks.{refusal}
+use Rattle.words.specs.Checks.{outcome}
 use Rattle.words.proofs.Tests.{pick_true, pick-false}
 use Rattle.sharing.proofs.EachMember.{members-front}
 use Rattle.records.specs.Keys.{key_checks}
@@ -12,7 +12,7 @@ use Rattle.board.proofs.keys.check_board_keys.Goals as goal
 
 pub returns-in_default : goal.returns-in_default
 unfolding board_key_checks
-returns-in_default c = sym (pick-false _ _ 12 (none-found _ _ c.found_keys.ensures c.in_default.is))
+returns-in_default c = sym (pick-false _ _ _ (none-found _ _ c.found_keys.ensures c.in_default.is))
 
 pub returns : goal.returns
 unfolding board_key_checks
@@ -20,5 +20,5 @@ returns c =
     let s = c.args.s in
     let found = some-found s.n c.args.b.now c.found_keys.ensures c.in-Some.is in
     c.check_keys.ensures
-    ∙ ap (λ (ys : List ℕ). refusal (key_checks s.group ys)) (members-front (key_in c.args.b.now) s.n found.1)
-    ∙ sym (pick_true _ _ 12 found.0)
+    ∙ ap (λ (ys : List ℕ). outcome (key_checks s.group ys) (tt {0})) (members-front (key_in c.args.b.now) s.n found.1)
+    ∙ sym (pick_true _ _ _ found.0)

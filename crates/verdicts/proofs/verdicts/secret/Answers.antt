@@ -4,10 +4,9 @@ use native.Mathlib.Omega.{arith}
 use lib.ListN.{length, take}
 use Rattle.words.specs.Bytes.{record_at}
 use Rattle.words.specs.declared.Record.{Record}
-use Rattle.words.proofs.Tests.{passed, failed}
 use Rattle.records.specs.Layout.{u_of}
 use Rattle.verdicts.specs.Shares.{judges}
-use Rattle.verdicts.specs.Verdict.{commitments_of, encrypted_of, is_opened}
+use Rattle.verdicts.specs.Verdict.{commitments_of, encrypted_of}
 use Rattle.verdicts.proofs.Secrets.{lines-sorted, commitments-are, encrypted-are, encrypted-count, lines-commitments, opened-told, opening-inside, secret-shares, secret-opened}
 use Rattle.verdicts.proofs.verdicts.secret.Goals as goal
 
@@ -44,32 +43,26 @@ from_shares-requires c =
 
 pub returns-then-not-opened_at : goal.returns-then-not-opened_at
 returns-then-not-opened_at c =
-    let commitments : take c.args.s.n c.args.figures.vs ≡ commitments_of c.args.s c.args.b.now c.args.d =
-    commitments-are c.args.s c.args.b.now c.args.d c.requires.1 in
-    let opened : let a = c.args in c.opened_at.result ≡ is_opened a.s a.b.now a.d =
-    opened-told c.args.s c.args.b.now c.args.d c.find_opening-at.ensures commitments c.opened_at.ensures in
     let a = c.args in
-    c.from_shares.ensures ∙ secret-shares a.s a.b.now a.d judges (failed opened c.if-not-opened_at.true-raw)
+    let commitments : take a.s.n a.figures.vs ≡ commitments_of a.s a.b.now a.d = commitments-are a.s a.b.now a.d c.requires.1 in
+    let shut = opened-told a.s a.b.now a.d c.find_opening-at.ensures commitments c.if-not-opened_at.ensures in
+    c.from_shares.ensures ∙ secret-shares a.s a.b.now a.d judges (sym shut)
 
 pub record_at-requires : goal.record_at-requires
 record_at-requires c =
-    let commitments : take c.args.s.n c.args.figures.vs ≡ commitments_of c.args.s c.args.b.now c.args.d =
-    commitments-are c.args.s c.args.b.now c.args.d c.requires.1 in
-    let opened : let a = c.args in c.opened_at.result ≡ is_opened a.s a.b.now a.d =
-    opened-told c.args.s c.args.b.now c.args.d c.find_opening-at.ensures commitments c.opened_at.ensures in
     let a = c.args in
-    omega (arith, c.find_opening-at.ensures, opening-inside a.s a.b.now a.d (passed opened c.if-not-opened_at.false-raw))
+    let commitments : take a.s.n a.figures.vs ≡ commitments_of a.s a.b.now a.d = commitments-are a.s a.b.now a.d c.requires.1 in
+    let opened = opened-told a.s a.b.now a.d c.find_opening-at.ensures commitments c.if-not-opened_at.ensures in
+    omega (arith, c.find_opening-at.ensures, opening-inside a.s a.b.now a.d (sym opened))
 
 pub power-requires : goal.power-requires
 power-requires c = c.requires.0.proper.proper.prime-p.above-one
 
 pub returns : goal.returns
 returns c =
-    let commitments : take c.args.s.n c.args.figures.vs ≡ commitments_of c.args.s c.args.b.now c.args.d =
-    commitments-are c.args.s c.args.b.now c.args.d c.requires.1 in
-    let opened : let a = c.args in c.opened_at.result ≡ is_opened a.s a.b.now a.d =
-    opened-told c.args.s c.args.b.now c.args.d c.find_opening-at.ensures commitments c.opened_at.ensures in
     let a = c.args in
     let b = a.b.now in
-    secret-opened a.s b a.d judges (passed opened c.if-not-opened_at.false-raw) c.power.ensures
+    let commitments : take a.s.n a.figures.vs ≡ commitments_of a.s b a.d = commitments-are a.s b a.d c.requires.1 in
+    let opened = opened-told a.s b a.d c.find_opening-at.ensures commitments c.if-not-opened_at.ensures in
+    secret-opened a.s b a.d judges (sym opened) c.power.ensures
     (ap (λ (r : Record). u_of r) (c.record_at.ensures ∙ ap (record_at b) c.find_opening-at.ensures))

@@ -1,9 +1,8 @@
 -- `verdict` meets its contract: the number of his lines decides, and then the judge's answer on their figures.
-use mathlib.Core.Path.{ap, ◌∙◌}
 use Rattle.dealing.proofs.Settled.{FormedDealing}
 use Rattle.board.proofs.Order.{reached, sorted}
-use Rattle.verdicts.proofs.VerdictAnswers.{no_lines, not-all-lines, lines-formed, all_lines, judge-refuses, dealing-accepted}
-use Rattle.lines.specs.Columns.{columns_of}
+use Rattle.verdicts.proofs.VerdictAnswers.{no_lines, not-all-lines, lines-formed, all_lines, judge-refuses, figures-are, dealing-accepted}
+use Rattle.verdicts.specs.Posted.{LinesOn}
 use Rattle.verdicts.proofs.verdicts.verdict.Goals as goal
 
 pub lines_of-lines-requires : goal.lines_of-lines-requires
@@ -17,8 +16,8 @@ pub returns-then-count-s : goal.returns-then-count-s
 returns-then-count-s c =
     not-all-lines c.args.s c.args.b.now c.args.d c.requires.0 c.requires.1 c.lines_of-lines.ensures.result_value c.record_count-count.ensures c.if-count-eq0.false c.if-count-s.true
 
-pub judge_lines-judged-requires : goal.judge_lines-judged-requires
-judge_lines-judged-requires c =
+pub judge_lines-requires : goal.judge_lines-requires
+judge_lines-requires c =
     let formed : let a = c.args in FormedDealing a.s a.d a.ys.now c.lines_of-lines.result.now =
     lines-formed c.args.s c.args.b.now c.args.d c.requires.0 c.requires.1 c.lines_of-lines.ensures.result_value c.record_count-count.ensures c.if-count-eq0.false c.if-count-s.false c.requires.2 in
     let F = formed in
@@ -26,18 +25,14 @@ judge_lines-judged-requires c =
 
 pub secret-requires : goal.secret-requires
 secret-requires c =
-    let e = c.lines_of-lines.ensures.result_value in (
-      all_lines c.args.s c.args.b.now c.args.d c.requires.0 c.requires.1 e c.record_count-count.ensures c.if-count-eq0.false c.if-count-s.false c.requires.2
-          c.judge_lines-judged.ensures.answer_value c.in-Passed.is,
-      c.judge_lines-judged.ensures.figures_value ∙ ap (columns_of c.args.s.n) e,
-    )
+    let L : let a = c.args in LinesOn a.s a.b.now a.d =
+    all_lines c.args.s c.args.b.now c.args.d c.requires.0 c.requires.1 c.lines_of-lines.ensures.result_value c.record_count-count.ensures c.if-count-eq0.false c.if-count-s.false c.requires.2 c.in-Ok.ensures in
+    (L, figures-are c.args.s c.args.b.now c.args.d c.requires.0 c.requires.1 c.lines_of-lines.ensures.result_value c.record_count-count.ensures c.if-count-eq0.false c.if-count-s.false c.requires.2 c.in-Ok.ensures)
 
-pub returns-in-Refused : goal.returns-in-Refused
-returns-in-Refused c =
-    judge-refuses c.args.s c.args.b.now c.args.d c.requires.0 c.requires.1 c.lines_of-lines.ensures.result_value c.record_count-count.ensures c.if-count-eq0.false c.if-count-s.false c.requires.2
-    c.judge_lines-judged.ensures.answer_value c.in-Refused.is
+pub returns-in-Err : goal.returns-in-Err
+returns-in-Err c =
+    judge-refuses c.args.s c.args.b.now c.args.d c.requires.0 c.requires.1 c.lines_of-lines.ensures.result_value c.record_count-count.ensures c.if-count-eq0.false c.if-count-s.false c.requires.2 c.in-Err.ensures
 
-pub returns-in-Passed : goal.returns-in-Passed
-returns-in-Passed c =
-    dealing-accepted c.args.s c.args.b.now c.args.d c.requires.0 c.requires.1 c.lines_of-lines.ensures.result_value c.record_count-count.ensures c.if-count-eq0.false c.if-count-s.false c.requires.2
-    c.judge_lines-judged.ensures.answer_value c.in-Passed.is c.secret.ensures
+pub returns-in-Ok : goal.returns-in-Ok
+returns-in-Ok c =
+    dealing-accepted c.args.s c.args.b.now c.args.d c.requires.0 c.requires.1 c.lines_of-lines.ensures.result_value c.record_count-count.ensures c.if-count-eq0.false c.if-count-s.false c.requires.2 c.in-Ok.ensures c.secret.ensures
