@@ -31,6 +31,7 @@ pub fn added_form() -> ShareForm
 }
 
 // Whether the dealer of a form is a member, or 0 of an added share.
+#[tactic(auto, unfolding(crate::specs::Share::is_dealer))]
 fn is_dealer(n: u32, form: ShareForm) -> bool
     ensures { result ≡ is_dealer n form }
 {
