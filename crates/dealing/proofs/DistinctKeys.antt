@@ -16,7 +16,6 @@ use Rattle.lines.specs.Lines.{address_checks, line_checks}
 use Rattle.dealing.specs.Dealing.{write_size_checks, secret_checks, write_dealing_checks, written_dealing, write_dealing_outcome, lent_dealing}
 use Rattle.dealing.specs.Dealing.{judge_size_checks, dealing_form_checks, range_checks, equation_checks, line_figure_checks, judge_dealing_checks, judge_dealing_in, judge_dealing_outcome}
 use Rattle.dealing.specs.Claims.{DistinctKeys, JudgedDistinct}
-use Rattle.std.specs.Prelude.{Err}
 use Rattle.words.specs.declared.refusal.Refusal.TheVariants.{SameKey}
 use Rattle.words.specs.declared.refusal.Refusal.{Refusal}
 

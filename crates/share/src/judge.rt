@@ -47,6 +47,7 @@ fn check_admission(s: Setting, e: EncryptedShare, y: Element, b: &[u8]) -> Resul
 
 // The challenge that the figures of the record give, with the key y of the member.
 // Internal: callers ensure that the setting is proper, and a dealer and a member at most n.
+#[tactic(auto, unfolding(crate::specs::Share::share_recomputed))]
 fn recomputed(s: Setting, e: EncryptedShare, y: Element, share: Record) -> Exponent
     requires { (ProperSetting s) × (e.form.dealer ≤ s.n) × (e.member ≤ s.n) }
     ensures { result.0 ≡ share_recomputed s e.form e.member y.0 e.encrypted.0 share }

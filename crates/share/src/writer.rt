@@ -14,7 +14,7 @@ use records::{is_secret_key, share_record};
 use sharing::{Round, Setting, setting_of};
 use words::Refusal;
 
-// The first number refused in a setting,.
+// The first number refused in a setting: 8, 3, 6 and 7 as write_share.
 #[tactic(auto, unfolding(crate::specs::Share::write_share_checks, crate::specs::Share::members_checks))]
 fn check_writing(s: Setting, e: EncryptedShare, x: Exponent, w: Exponent, room: usize) -> Result<(), Refusal>
     ensures { result ≡ outcome (write_share_checks s e.form e.member e.encrypted.0 x.0 w.0 room) tt }

@@ -3,13 +3,12 @@ use mathlib.Core.Path.{◌≡◌, sym, ap, ◌∙◌}
 use mathlib.Core.List.{List}
 use Rattle.std.proofs.Common.{rules}
 use Rattle.std.specs.Prelude.{Ok, Err}
-use Rattle.words.specs.Checks.{Check, Met, outcome}
+use Rattle.words.specs.Checks.{Check, outcome}
 use Rattle.words.proofs.Checks.{value-exactly}
 use Rattle.words.proofs.Stages.{stage-met, last-refused}
 use Rattle.lines.specs.declared.Columns.{Columns}
 use Rattle.lines.specs.Columns.{columns_of}
 use Rattle.dealing.specs.Dealing.{line_figure_checks}
-use Rattle.dealing.specs.Columns.{column_checks}
 use Rattle.dealing.proofs.Entries.{columns-same}
 use Rattle.dealing.proofs.judge.judge_lines.Goals as goal
 

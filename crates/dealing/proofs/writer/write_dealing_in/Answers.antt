@@ -1,9 +1,8 @@
 -- `write_dealing_in` meets its contract: a refusal is handed on, and where there is none the dealing is written.
-use mathlib.Core.Path.{◌≡◌, sym, ◌∙◌}
+use mathlib.Core.Path.{sym, ◌∙◌}
 use mathlib.Core.List.{List}
 use lib.ListN.{length}
 use Rattle.std.proofs.Common.{rules}
-use Rattle.std.specs.Prelude.{Err}
 use Rattle.words.specs.Checks.{Check}
 use Rattle.words.proofs.Checks.{if-met}
 use Rattle.words.proofs.Stages.{stage-met, last-kept}
