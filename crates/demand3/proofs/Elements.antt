@@ -5,7 +5,6 @@ use mathlib.Core.Bool.{Bool, true, false}
 use mathlib.Core.List.{List, [], ◌∷◌, ◌++◌, append_assoc}
 use mathlib.Core.Logic.{⊎_elim}
 use Prim.Native.Nat.{ℕ, zero, suc, ◌*◌}
-use native.Mathlib.Omega.{arith}
 use lib.ListN.{take, drop, replicate}
 use lib.Dec.{leb, eqb}
 use Rattle.words.specs.Choice.{pick}
@@ -43,6 +42,7 @@ use Rattle.verdicts.specs.declared.Secret.{Secret}
 use Rattle.verdicts.specs.declared.Secret.TheVariants.{Opened, Recovered}
 use Rattle.verdicts.specs.declared.Verdict.{Verdict}
 use Rattle.verdicts.specs.declared.Verdict.TheVariants.{None, Accepted}
+use Rattle.rulings.proofs.Theorems.{judgement-exactly}
 use Rattle.plots.specs.Picked.{plot_checks, pick_checks, pick_outcome}
 use Rattle.chain.specs.Link.{value_checks}
 use Rattle.chain.specs.Chain.{chain_checks, chain_outcome, extend_checks, extend_outcome}
@@ -53,6 +53,7 @@ use Rattle.demand3.proofs.Sources.{Source, opened, recovers, stuck, source_of}
 use Rattle.demand3.proofs.VerdictCases.{verdict-rules}
 use Rattle.demand3.proofs.Endings.{end-rules}
 use Rattle.std.specs.Prelude.{Ok}
+use Rattle.words.specs.declared.refusal.Refusal.TheVariants.{NoElement}
 
 -- ---- products of powers of elements
 module _ (G : Group) (P : Proper G) where
@@ -169,9 +170,9 @@ answers-elements T R b =
     let S : Setting = setting_in T R in
     let G : Group = S.group in
     record {
-      secrets = λ A j.
-          subst (All (AtPlace G)) (sym j.verdicts)
-          (either_way (All (AtPlace G)) (round_checks T R ++ board_checks S b) (verdict_places (verdict_on judges S b) S.n) no_verdicts
+      secrets = λ o j.
+          subst (All (SecretElement G)) (sym (judgement-exactly judges T R b o j).verdicts)
+          (either_way (All (SecretElement G)) (round_checks T R ++ board_checks S b) (verdict_places (verdict_on judges S b) S.n) no_verdicts
           (λ m.
           let s = met-both (round_checks T R) (board_checks S b) m in
           each-place G (verdict_on judges S b) S.n (elements T R b s.0 s.1).secret)
@@ -213,7 +214,7 @@ draw-picks T R b v e radius N k room =
     let a = picks T R b v e radius N k room in
     record {
       answer = a;
-      not-by-6 = λ f. never-among (plot_checks radius N k room) tt 6 (λ z. omega arith, (λ z. omega arith, (λ z. omega arith, tt))) (sym a ∙ f);
+      not-by-6 = λ f. never-among (plot_checks radius N k room) tt NoElement (λ z. false-true (cc), (λ z. false-true (cc), (λ z. false-true (cc), tt))) (sym a ∙ f);
     }
 
 pub draw-extends : DrawExtends
@@ -222,5 +223,5 @@ draw-extends T R b v e c room =
     record {
       answer = extends T R b v e c room;
       accepted = a;
-      not-by-6 = λ m f. never-among (link_room c room) tt 6 (λ z. omega arith, tt) (sym (a m) ∙ f);
+      not-by-6 = λ m f. never-among (link_room c room) tt NoElement (λ z. false-true (cc), tt) (sym (a m) ∙ f);
     }

@@ -174,13 +174,13 @@ module _ (J : Judges) (S : Setting) (P : ProperSetting S) (b : List ℕ) (m : Me
 module _ {J : Judges} {S : Setting} {b : List ℕ} where
   fourteen-exactly : End J S b → (draw_in J S b ≡ Err TooFew) ↔ (length (accepted_dealers J S b) < S.t)
   fourteen-exactly (fourteen l e) = (λ h. l, λ h. e)
-  fourteen-exactly (thirteen l s u e) = (λ h. let z : ◌≡◌ {A = ℕ} 13 14 = cc in absurd (omega arith), λ h. absurd (omega arith))
+  fourteen-exactly (thirteen l s u e) = (λ h. absurd (false-true (cc)), λ h. absurd (omega arith))
   fourteen-exactly (drawn l n e) = (λ h. absurd (false-true (cc)), λ h. absurd (omega arith))
   fourteen-exactly (added l s u e) = (λ h. absurd (false-true (cc)), λ h. absurd (omega arith))
 
   thirteen-exactly : End J S b → (draw_in J S b ≡ Err StillStuck)
       ↔ ((S.t ≤ length (accepted_dealers J S b)) × SomeStuck J S b × (length (added_by J S b) < S.t))
-  thirteen-exactly (fourteen l e) = (λ h. let z : ◌≡◌ {A = ℕ} 13 14 = cc in absurd (omega arith), λ h. absurd (omega (arith, h.0)))
+  thirteen-exactly (fourteen l e) = (λ h. absurd (false-true (cc)), λ h. absurd (omega (arith, h.0)))
   thirteen-exactly (thirteen l s u e) = (λ h. (l, s, u), λ h. e)
   thirteen-exactly (drawn l n e) = (λ h. absurd (false-true (cc)), λ h. absurd (n h.1))
   thirteen-exactly (added l s u e) = (λ h. absurd (false-true (cc)), λ h. absurd (omega (arith, h.2)))

@@ -83,8 +83,8 @@ module _ (J : Judges) {S : Setting} (P : ProperSetting S) {b : List ℕ} (F : Re
   none-exactly (accepted-lines l g a v) = (λ h. absurd (false-true (cc)), λ z. absurd (omega (arith, some-members)))
 
   -- ---- refused and accepted
-  refuses-exactly : Case J S b d → (k : ℕ) → (verdict_on J S b d ≡ Refused k)
-      ↔ (((line_count b d ≡ 0 → ⊥) × (line_count b d ≡ S.n → ⊥) × (k ≡ 12)) ⊎ ((line_count b d ≡ S.n) × (dealing_answer J S b d ≡ Err k)))
+  refuses-exactly : Case J S b d → (k : Refusal) → (verdict_on J S b d ≡ Refused k)
+      ↔ (((line_count b d ≡ 0 → ⊥) × (line_count b d ≡ S.n → ⊥) × (k ≡ Incomplete)) ⊎ ((line_count b d ≡ S.n) × (dealing_answer J S b d ≡ Err k)))
   refuses-exactly (no_lines z a v) k =
       (λ h. absurd (false-true (cc)), ⊎_elim (λ h. absurd (h.0 z)) (λ h. absurd (omega (arith, some-members, h.0))))
   refuses-exactly (some-lines n l a v) k = (λ h. inl (n, l, cc), ⊎_elim (λ h. v ∙ ap Refused (sym h.2)) (λ h. absurd (l h.0)))

@@ -2,7 +2,7 @@
 -- picking plots and extending a chain take a draw value as the board judge answers it, and never refuse it by 6.
 use Rattle.std.specs.Prelude.{◌≡◌, true, ◌&&◌, List, [], ◌∷◌, ◌++◌, ◌⊎◌, ℕ, ltb, eqb, Ok, Err}
 use Rattle.words.specs.Lists.{All}
-use Rattle.words.specs.Checks.{Check, ◌unless◌, outcome, Met}
+use Rattle.words.specs.Checks.{Check, ◌unless◌, Outcome, outcome, Met}
 use Rattle.words.specs.Bytes.{record_in}
 use Rattle.group.specs.Element.{is_element}
 use Rattle.group.specs.declared.Element.{Element}
@@ -52,8 +52,7 @@ JudgesTakeElements = TakesElements judges
 
 -- so whatever the board judge answers over a table and a round lies in the round's group
 pub record ElementsAnswered (T : List ℕ) (R : Round) (b : List ℕ) : Type 0 where
-  pub secrets : (o : Outcome Judgement) → JudgementOf judges T R b o
-      → All (SecretElement (setting_in T R).group) (verdicts_of o)
+  pub secrets : (o : Outcome Judgement) → JudgementOf judges T R b o → All (SecretElement (setting_in T R).group) (verdicts_of o)
   pub draw : (v : Element) → draw_outcome judges T R b ≡ Ok v → is_element (setting_in T R).group v.0 ≡ true
 
 abbrev pub AnswersElements : Type 0

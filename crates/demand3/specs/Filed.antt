@@ -167,4 +167,4 @@ FiledKeyTwice =
 abbrev pub FiledTwiceOverRound : Type 0
 FiledTwiceOverRound =
     (T : List ℕ) (R : Round) → Met (round_checks T R) → R.round ≡ 0 → (b : List ℕ) → OfThen b → Met (filed_board_checks (setting_in T R) b)
-    → KeyTwice (setting_in T R).group (keys_in R.n b) → RefusedOver judges T R b 22
+    → KeyTwice (setting_in T R).group (keys_in R.n b) → RefusedOver judges T R b SameKey
