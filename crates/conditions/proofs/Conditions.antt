@@ -8,6 +8,7 @@ use native.Mathlib.Omega.{arith}
 use borrow.Author.Tests.{eqb-true, eq-eqb}
 use lib.Dec.{eqb}
 use lib.ListN.{length, get_or, take}
+use Rattle.std.specs.Prelude.{Ok}
 use Rattle.words.specs.Choice.{pick}
 use Rattle.words.specs.Lists.{All, map, up_from, entry}
 use Rattle.words.specs.Checks.{Outcome, outcome, Met}
@@ -43,7 +44,6 @@ use Rattle.demand3.proofs.TwoBoards.{draw-by-round}
 use Rattle.conditions.specs.Boards.{uncarried_low, uncarried_high, added_board}
 use Rattle.conditions.specs.Claims.{polynomial_of, DrawIs, ConditionsMet, OtherConditions, EachCarried, AllTrue, CarriedNeeded, TrueNeeded, AddedMet, OtherAdded, AddedTrueNeeded}
 use Rattle.conditions.proofs.Known.{opened, Known, two-accepted, every_share, is_true_share, is_true_to_line, all_known, AddedKnown, all-added}
-use Rattle.std.specs.Prelude.{Ok}
 
 -- ---- a fact of each of four members
 by-four : (P : ℕ → Type 0) → P 1 → P 2 → P 3 → P 4 → (d : ℕ) → 1 ≤ d → d ≤ 4 → P d

@@ -5,10 +5,12 @@ use mathlib.Core.List.{List, [], ◌∷◌}
 use Prim.Native.Nat.{ℕ}
 use native.Mathlib.Omega.{arith}
 use lib.Dec.{eqb}
+use Rattle.std.specs.Prelude.{Ok, Err, is_ok}
 use Rattle.words.specs.Choice.{pick}
 use Rattle.words.specs.Lists.{map, all, up_from, entry}
 use Rattle.words.specs.Checks.{Outcome, outcome}
 use Rattle.words.specs.Bytes.{word_at, word_bytes, words_bytes, record_bytes, record_in, records_in, record_at, agrees}
+use Rattle.words.specs.declared.refusal.Refusal.TheVariants.{DegreeFails}
 use Rattle.field.specs.Residue.{add, mul, sub, inv}
 use Rattle.field.specs.Polynomial.{value_at}
 use Rattle.group.specs.Power.{pow}
@@ -36,8 +38,6 @@ use Rattle.demand3.specs.Claims.{power_of_h}
 use Rattle.conditions.specs.Boards.{opened_board, silent_board, forged_board, uncarried_low, uncarried_high, added_board, forged_added}
 use Rattle.conditions.specs.Claims.{polynomial_of}
 use Rattle.conditions.proofs.Answers.{answers}
-use Rattle.std.specs.Prelude.{Ok, Err, is_ok}
-use Rattle.words.specs.declared.refusal.Refusal.TheVariants.{DegreeFails}
 
 abbrev pub opened : ℕ → Secret
 opened v = Opened (record { 0 = v })

@@ -7,6 +7,7 @@ use Prim.Native.Nat.{ℕ, zero, suc}
 use Rattle.words.specs.Lists.{Distinct}
 use Rattle.words.specs.Checks.{Check, outcome, without, MetBy}
 use Rattle.words.specs.Bytes.{records_in}
+use Rattle.words.specs.declared.refusal.Refusal.TheVariants.{SameKey}
 use Rattle.words.proofs.Lists.{All-append}
 use Rattle.words.proofs.Tests.{false-true, true-distinct}
 use Rattle.words.proofs.Without.{without-outcome, others-met}
@@ -22,7 +23,6 @@ use Rattle.verdicts.specs.Draw.{draw_in}
 use Rattle.demand3.specs.Rounds.{draw_by, judges_without, board_without, DistinctBoard, DistinctOverRound}
 use Rattle.demand3.proofs.SameJudges.{all_same, same_end}
 use Rattle.demand3.proofs.Rounds.{answered-by-setting}
-use Rattle.words.specs.declared.refusal.Refusal.TheVariants.{SameKey}
 
 -- ---- a board
 records-met : (S : Setting) (b : List ℕ) (i m : ℕ) → MetBy SameKey (record_checks S b i m)

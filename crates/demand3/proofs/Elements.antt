@@ -7,10 +7,12 @@ use mathlib.Core.Logic.{⊎_elim}
 use Prim.Native.Nat.{ℕ, zero, suc, ◌*◌}
 use lib.ListN.{take, drop, replicate}
 use lib.Dec.{leb, eqb}
+use Rattle.std.specs.Prelude.{Ok}
 use Rattle.words.specs.Choice.{pick}
 use Rattle.words.specs.Lists.{All, map, up_from, entry}
 use Rattle.words.specs.Checks.{Check, outcome, Met}
 use Rattle.words.specs.Bytes.{record_in, record_at}
+use Rattle.words.specs.declared.refusal.Refusal.TheVariants.{NoElement}
 use Rattle.words.proofs.Lists.{All-each, All-to, map-all}
 use Rattle.words.proofs.Tests.{false-true, and-true, pick_true}
 use Rattle.words.proofs.Checks.{value-met, value-exactly, is-value, either_way, never-among}
@@ -52,8 +54,6 @@ use Rattle.demand3.proofs.Serving.{serving, serving-shares}
 use Rattle.demand3.proofs.Sources.{Source, opened, recovers, stuck, source_of}
 use Rattle.demand3.proofs.VerdictCases.{verdict-rules}
 use Rattle.demand3.proofs.Endings.{end-rules}
-use Rattle.std.specs.Prelude.{Ok}
-use Rattle.words.specs.declared.refusal.Refusal.TheVariants.{NoElement}
 
 -- ---- products of powers of elements
 module _ (G : Group) (P : Proper G) where

@@ -10,9 +10,11 @@ use native.Mathlib.Omega.{arith}
 use borrow.Author.Tests.{leb-true, leb-false}
 use lib.ListN.{length, take}
 use lib.Dec.{leb}
+use Rattle.std.specs.Prelude.{Ok, Err}
 use Rattle.words.specs.Choice.{pick}
 use Rattle.words.specs.Lists.{map, up_from}
 use Rattle.words.specs.Checks.{outcome, Met}
+use Rattle.words.specs.declared.refusal.Refusal.TheVariants.{StillStuck, TooFew}
 use Rattle.words.proofs.Tests.{false-true, pick_true, pick-false}
 use Rattle.words.proofs.Stages.{rest-outcome, front-outcome}
 use Rattle.group.specs.declared.Element.{Element}
@@ -34,8 +36,6 @@ use Rattle.verdicts.specs.declared.Verdict.TheVariants.{None, Refused, Accepted}
 use Rattle.demand3.specs.Claims.{SomeStuck, RefusedBefore, DrawnBySecrets, DrawnByAdded, EndRules}
 use Rattle.demand3.proofs.Serving.{shares-ascend}
 use Rattle.demand3.proofs.VerdictCases.{Case, no_lines, some-lines, refused-lines, accepted-lines, case-of}
-use Rattle.std.specs.Prelude.{Ok, Err}
-use Rattle.words.specs.declared.refusal.Refusal.TheVariants.{StillStuck, TooFew}
 
 -- ---- refused before the verdicts
 pub refused-before : RefusedBefore

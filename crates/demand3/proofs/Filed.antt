@@ -15,6 +15,7 @@ use Rattle.words.specs.Lists.{Distinct, all, map, none_twice, up_from, entry}
 use Rattle.words.specs.Checks.{Check, ◌unless◌, outcome, Met, FirstUnmet}
 use Rattle.words.specs.Bytes.{record_in, records_in, record_at, agrees}
 use Rattle.words.specs.declared.Record.{Record}
+use Rattle.words.specs.declared.refusal.Refusal.TheVariants.{BadLength, BadForm, NoElement, NoExponent, DegreeFails, ProofFails, Incomplete, StillStuck, TooFew, OtherRound, SameKey}
 use Rattle.words.proofs.Tests.{false-true, true-distinct}
 use Rattle.words.proofs.Stages.{both-met, met-both, rest-first, settled-outcome}
 use Rattle.words.proofs.Alike.{Alike, alike-behind, alike-before, alike-outcome}
@@ -52,7 +53,6 @@ use Rattle.demand3.specs.Filed.{filed_shaped, filed_end_checks, filed_record_che
 use Rattle.demand3.proofs.Endings.{refused-before}
 use Rattle.demand3.proofs.SameJudges.{same-verdict}
 use Rattle.demand3.proofs.Rounds.{first-refusal, answered-by-setting}
-use Rattle.words.specs.declared.refusal.Refusal.TheVariants.{BadLength, BadForm, NoElement, NoExponent, DegreeFails, ProofFails, Incomplete, StillStuck, TooFew, OtherRound, SameKey}
 
 -- ---- round 0
 -- the test of word 7, which holds

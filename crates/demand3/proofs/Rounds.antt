@@ -3,13 +3,15 @@
 use mathlib.Core.Path.{◌≡◌, refl, sym, ap, ◌∙◌, subst}
 use mathlib.Core.List.{List, ◌++◌, append_assoc}
 use Prim.Native.Nat.{ℕ}
+use Rattle.std.specs.Prelude.{Ok, Err}
 use Rattle.words.specs.Lists.{map}
 use Rattle.words.specs.Checks.{Check, Outcome, outcome, Met, FirstUnmet}
+use Rattle.words.specs.declared.refusal.Refusal.{Refusal}
+use Rattle.words.specs.declared.refusal.Refusal.TheVariants.{OtherRound, SameKey}
 use Rattle.words.proofs.Tests.{false-true}
 use Rattle.words.proofs.Checks.{value-exactly, refused-exactly}
 use Rattle.words.proofs.Stages.{met-both, rest-first, front-outcome}
 use Rattle.words.proofs.RefuseAlike.{same-behind, same-value, same-choice}
-use Rattle.group.specs.declared.Element.{Element}
 use Rattle.sharing.specs.Setting.{setting_in, round_checks, judged, judged_else, members}
 use Rattle.sharing.specs.declared.Round.{Round}
 use Rattle.sharing.specs.declared.Setting.{Setting}
@@ -17,7 +19,7 @@ use Rattle.board.specs.Board.{form_checks, board_key_checks, board_checks}
 use Rattle.board.proofs.Order.{board-of-other-round}
 use Rattle.board.proofs.KeyRecords.{board-key-twice}
 use Rattle.verdicts.specs.Shares.{Judges, judges}
-use Rattle.verdicts.specs.Verdict.{verdict_on, verdicts_on}
+use Rattle.verdicts.specs.Verdict.{verdict_on}
 use Rattle.verdicts.specs.Draw.{count_accepted, draw_checks, draw_value, draw_in, draw_outcome, verdict_places, no_verdicts}
 use Rattle.verdicts.specs.declared.Judgement.{Judgement}
 use Rattle.rulings.specs.Ruling.{JudgementOf, verdicts_of, count_of}
@@ -26,9 +28,6 @@ use Rattle.rulings.proofs.Theorems.{judgement-exactly}
 use Rattle.text.specs.Text.{refused_line, dealer_lines, accepted_line, draw_line, round_line, text_of, report, board_text, draw_text}
 use Rattle.text.proofs.Reports.{text-passed}
 use Rattle.demand3.specs.Rounds.{FirstRefusal, OtherRoundRefused, KeyTwiceRefused, BoardJudge, draw_over, places_over, count_over, report_by, text_over, JudgedAs, AnsweredBySetting}
-use Rattle.std.specs.Prelude.{Ok, Err}
-use Rattle.words.specs.declared.refusal.Refusal.{Refusal}
-use Rattle.words.specs.declared.refusal.Refusal.TheVariants.{OtherRound, SameKey}
 
 module _ (T : List ℕ) (R : Round) (b : List ℕ) where
   abbrev S : Setting

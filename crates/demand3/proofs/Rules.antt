@@ -5,9 +5,11 @@ use mathlib.Core.List.{List, [], ◌∷◌, ◌++◌}
 use Prim.Native.Nat.{ℕ, zero, suc}
 use borrow.Author.Tests.{eq-eqb}
 use lib.Dec.{eqb}
+use Rattle.std.specs.Prelude.{Ok, Err}
 use Rattle.words.specs.Lists.{all}
 use Rattle.words.specs.Checks.{Check, ◌unless◌, outcome, Met}
 use Rattle.words.specs.Bytes.{record_in, records_in}
+use Rattle.words.specs.declared.refusal.Refusal.TheVariants.{DegreeFails, NoElement, NoExponent, NoMember, ProofFails}
 use Rattle.words.proofs.Tests.{pick_true}
 use Rattle.words.proofs.Checks.{value-met}
 use Rattle.words.proofs.Stages.{met-both, rest-outcome}
@@ -29,8 +31,6 @@ use Rattle.share.specs.Share.{members_checks, share_admission_checks, share_reco
 use Rattle.share.specs.declared.ShareForm.{ShareForm}
 use Rattle.board.specs.Board.{one_record_checks, record_checks, length_checks, form_checks, board_key_checks, board_checks, lines_checks}
 use Rattle.demand3.specs.Rules.{under_rule, UnderOtherRule}
-use Rattle.std.specs.Prelude.{Ok, Err}
-use Rattle.words.specs.declared.refusal.Refusal.TheVariants.{DegreeFails, NoElement, NoExponent, NoMember, ProofFails}
 
 -- of checks in three stages that are all met: with other checks in the third, these alone decide
 last-decides : {A : Type 0} (front ranges own other : List Check) → Met (front ++ (ranges ++ own)) → (a : A)

@@ -4,6 +4,7 @@ use Rattle.std.specs.Prelude.{◌≡◌, true, ◌&&◌, List, [], ◌∷◌, �
 use Rattle.words.specs.Lists.{All}
 use Rattle.words.specs.Checks.{Check, ◌unless◌, Outcome, outcome, Met}
 use Rattle.words.specs.Bytes.{record_in}
+use Rattle.words.specs.declared.refusal.Refusal.TheVariants.{BadLength, NoElement}
 use Rattle.group.specs.Element.{is_element}
 use Rattle.group.specs.declared.Element.{Element}
 use Rattle.group.specs.declared.Group.{Group}
@@ -23,7 +24,6 @@ use Rattle.verdicts.specs.declared.Verdict.TheVariants.{Accepted}
 use Rattle.rulings.specs.Ruling.{JudgementOf, verdicts_of}
 use Rattle.plots.specs.Picked.{plot_checks, pick_outcome}
 use Rattle.chain.specs.Chain.{links_in, chain_checks, chain_outcome, extend_outcome}
-use Rattle.words.specs.declared.refusal.Refusal.TheVariants.{BadLength, NoElement}
 
 -- ---- words of the claims
 -- the secret of a verdict, opened or recovered, is an element; the other verdicts have none
