@@ -9,7 +9,7 @@ use Rattle.words.specs.Checks.{Check, outcome, without, MetBy}
 use Rattle.words.specs.Bytes.{records_in}
 use Rattle.words.specs.declared.refusal.Refusal.TheVariants.{SameKey}
 use Rattle.words.proofs.Lists.{All-append}
-use Rattle.words.proofs.Tests.{false-true, true-distinct}
+use Rattle.words.proofs.Tests.{true-distinct}
 use Rattle.words.proofs.Without.{without-outcome, others-met}
 use Rattle.words.proofs.RefuseAlike.{same-behind}
 use Rattle.sharing.specs.Setting.{setting_in}
@@ -36,8 +36,8 @@ module _ (S : Setting) (b : List ℕ) (n : Distinct (keys_in S.n b)) where
   unfolding board_checks form_checks board_key_checks key_checks
   board-met =
       All-append (λ (c : Check). c.by ≡ SameKey → c.met ≡ true) (form_checks S b) (board_key_checks S b)
-      (λ e. absurd (false-true (cc)), records-met S b 0 (records_in b))
-      (λ e. absurd (false-true (cc)), (λ e. absurd (false-true (cc)), (λ e. true-distinct (keys_in S.n b) n, tt)))
+      (λ e. cc, records-met S b 0 (records_in b))
+      (λ e. cc, (λ e. cc, (λ e. true-distinct (keys_in S.n b) n, tt)))
 
   without-before : outcome (board_checks S b) tt ≡ outcome (without SameKey (board_checks S b)) (tt {0})
   without-before = without-outcome Unit SameKey (board_checks S b) tt board-met

@@ -137,7 +137,8 @@ shaped-same n r h =
 
 -- a stuck dealing is the end, whatever there would be
 end_same : (c stuck : Bool) (u v : Element)
-    → outcome (TooFew unless c ∷ StillStuck unless pick stuck false true ∷ []) (pick stuck u v) ≡ outcome (TooFew unless c ∷ StillStuck unless not stuck ∷ []) v
+    → outcome (TooFew unless c ∷ StillStuck unless pick stuck false true ∷ []) (pick stuck u v)
+    ≡ outcome (TooFew unless c ∷ StillStuck unless not stuck ∷ []) v
 end_same c true u v = refl
 end_same c false u v = refl
 
@@ -227,4 +228,5 @@ filed-set s z f = λ j.
 
 pub filed-twice-over-round : FiledTwiceOverRound
 filed-twice-over-round T R m z b w k t =
-    first-refusal judges T R b SameKey (rest-first (round_checks T R) (board_checks (setting_in T R) b) SameKey m (filed-twice (setting_in T R) z b w k t))
+    first-refusal judges T R b SameKey
+    (rest-first (round_checks T R) (board_checks (setting_in T R) b) SameKey m (filed-twice (setting_in T R) z b w k t))

@@ -2,13 +2,13 @@
 -- setting agree over them.
 use mathlib.Core.Path.{◌≡◌, refl, sym, ap, ◌∙◌, subst}
 use mathlib.Core.List.{List, ◌++◌, append_assoc}
+use mathlib.Core.Logic.{◌↔◌}
 use Prim.Native.Nat.{ℕ}
 use Rattle.std.specs.Prelude.{Ok, Err}
 use Rattle.words.specs.Lists.{map}
 use Rattle.words.specs.Checks.{Check, Outcome, outcome, Met, FirstUnmet}
 use Rattle.words.specs.declared.refusal.Refusal.{Refusal}
 use Rattle.words.specs.declared.refusal.Refusal.TheVariants.{OtherRound, SameKey}
-use Rattle.words.proofs.Tests.{false-true}
 use Rattle.words.proofs.Checks.{value-exactly, refused-exactly}
 use Rattle.words.proofs.Stages.{met-both, rest-first, front-outcome}
 use Rattle.words.proofs.RefuseAlike.{same-behind, same-value, same-choice}
@@ -27,7 +27,7 @@ use Rattle.rulings.specs.Files.{round_in, file_checks}
 use Rattle.rulings.proofs.Theorems.{judgement-exactly}
 use Rattle.text.specs.Text.{refused_line, dealer_lines, accepted_line, draw_line, round_line, text_of, report, board_text, draw_text}
 use Rattle.text.proofs.Reports.{text-passed}
-use Rattle.demand3.specs.Rounds.{FirstRefusal, OtherRoundRefused, KeyTwiceRefused, BoardJudge, draw_over, places_over, count_over, report_by, text_over, JudgedAs, AnsweredBySetting}
+use Rattle.demand3.specs.Rounds.{FirstRefusal, OtherRoundRefused, KeyTwiceRefused, BoardJudge, checks_over, draw_over, places_over, count_over, report_by, text_over, JudgedAs, AnsweredBySetting}
 
 module _ (T : List ℕ) (R : Round) (b : List ℕ) where
   abbrev S : Setting
@@ -50,12 +50,11 @@ module _ (T : List ℕ) (R : Round) (b : List ℕ) where
     no-verdict (Ok A) a =
         let met = (value-exactly Unit own tt).1 a.0 in
         let refused = (refused-exactly Unit own tt k).1 u in
-        absurd (false-true (cc))
+        cc
     no-verdict (Err i) v =
         let first = (refused-exactly Unit own tt i).1 v in
         let refused = (refused-exactly Unit own tt k).1 u in
-        let same : i ≡ k = cc in
-        ap Err same
+        cc
 
     one_line : (s : List ℕ) → Met (file_checks T s) → round_in s ≡ R → draw_text J T s b ≡ refused_line k
     unfolding draw_text board_text judged
@@ -67,7 +66,7 @@ module _ (T : List ℕ) (R : Round) (b : List ℕ) where
   -- ---- judged as by another board judge in their setting
   module _ (B : BoardJudge) (h : Met (round_checks T R) → JudgedAs B S b) where
     abbrev other : List Check
-    other = round_checks T R ++ B.before S b
+    other = checks_over B T R b
 
     before : outcome own tt ≡ outcome other (tt {0})
     before = same-behind (round_checks T R) (round_checks T R) refl (board_checks S b) (B.before S b) tt tt (λ m. (h m).before)
@@ -88,6 +87,16 @@ module _ (T : List ℕ) (R : Round) (b : List ℕ) where
       same-report = λ j.
           let vs = map (λ d. verdict d j) (members S.n) in
           round_line S ++ (dealer_lines 1 vs ++ (accepted_line (count_accepted vs) ++ draw_line ((h both.0).draw j)))
+
+    refused-over : (o : Outcome Judgement) → JudgementOf judges T R b o → (k : Refusal) → (o ≡ Err k) ↔ FirstUnmet k other
+    refused-over (Ok A) a k =
+        let met = (value-exactly Unit own tt).1 a.0 in
+        (λ e. absurd (cc), λ u. let refused = before ∙ (refused-exactly Unit other tt k).1 u in cc)
+    refused-over (Err i) v k =
+        let first = sym before ∙ (refused-exactly Unit own tt i).1 v in (
+          λ e. let same : i ≡ k = cc in (refused-exactly Unit other tt k).0 (first ∙ ap Err same),
+          λ u. let refused = (refused-exactly Unit other tt k).1 u in cc,
+        )
 
     verdicts-over : (o : Outcome Judgement) → JudgementOf judges T R b o → verdicts_of o ≡ places_over B T R b
     unfolding judged_else
@@ -116,7 +125,13 @@ first-refusal J T R b k u = record { draw = no-draw T R b J k u; answer = no-ver
 
 pub answered-by-setting : AnsweredBySetting
 answered-by-setting B T R b h =
-    record { draw = draw-over T R b B h; verdicts = verdicts-over T R b B h; accepted = accepted-over T R b B h; text = text-over T R b B h }
+    record {
+      draw = draw-over T R b B h;
+      refused = refused-over T R b B h;
+      verdicts = verdicts-over T R b B h;
+      accepted = accepted-over T R b B h;
+      text = text-over T R b B h;
+    }
 
 -- ---- by 17 and by 22
 pub other-round-refused : OtherRoundRefused

@@ -70,7 +70,8 @@ module _ (S : Setting) (whole : Bool) where
         last-decides form ranges (equations S) (equations T) (value-met (form ++ (ranges ++ equations S)) tt tt e).0 tt
 
     by-challenges : ProperSetting S → (f : List ℕ) → Carries S f (vs_in S.n b)
-        → judge_dealing_in T d ys b ≡ outcome (ProofFails unless all (λ i. eqb (c_in b i) (recomputed T d ys (v_in b) (Y_in b) (r_in b) (c_in b))) (members S.n) ∷ []) tt
+        → judge_dealing_in T d ys b
+        ≡ outcome (ProofFails unless all (λ i. eqb (c_in b i) (recomputed T d ys (v_in b) (Y_in b) (r_in b) (c_in b))) (members S.n) ∷ []) tt
     unfolding equation_checks vs_in
     by-challenges P f K =
         let vs = vs_in S.n b in
