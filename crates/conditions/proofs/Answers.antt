@@ -2,6 +2,7 @@
 use mathlib.Core.Path.{◌≡◌, refl}
 use mathlib.Core.List.{List, [], ◌∷◌}
 use Prim.Native.Nat.{ℕ}
+use Rattle.std.specs.Prelude.{Ok}
 use Rattle.words.specs.Bytes.{word_at, word_bytes, words_bytes, record_bytes, record_in, record_at, agrees}
 use Rattle.words.specs.Lists.{entry}
 use Rattle.field.specs.Residue.{add, mul, sub, inv}
@@ -23,7 +24,6 @@ use Rattle.lines.specs.Lines.{address_checks, v_in, Y_in, r_in, c_in, is_line_fo
 use Rattle.dealing.specs.Dealing.{judge_size_checks, dealing_form_checks, recomputed, range_checks, equation_checks, judge_dealing_in}
 use Rattle.share.specs.Share.{opened_form, added_form, is_dealer, members_checks, share_recomputed, share_input_checks, share_form_checks, share_admission_checks, share_figure_checks, judge_share_in}
 use Rattle.conditions.specs.Boards.{share, added, first_lines, uncarried_lines, second_lines}
-use Rattle.std.specs.Prelude.{Ok}
 
 -- the dealing judge accepts the lines of dealer d
 abbrev pub Dealing : ℕ → List ℕ → Type 0

@@ -8,12 +8,14 @@ use native.Mathlib.Omega.{arith}
 use borrow.Author.Tests.{eqb-true, eq-eqb}
 use lib.Dec.{eqb}
 use lib.ListN.{length, get_or, take}
+use Rattle.std.specs.Prelude.{Ok}
 use Rattle.words.specs.Choice.{pick}
 use Rattle.words.specs.Lists.{All, map, up_from, entry}
 use Rattle.words.specs.Checks.{Outcome, outcome, Met}
 use Rattle.words.specs.Bytes.{records_in, record_at}
 use Rattle.words.proofs.Lists.{up-length, up_at}
 use Rattle.words.proofs.Tests.{false-true, and-true, all-at, pick_true}
+use Rattle.words.proofs.Checks.{value-exactly}
 use Rattle.field.specs.Residue.{mul}
 use Rattle.field.specs.Polynomial.{value_at}
 use Rattle.group.specs.Table.{groups_of, group_of}
@@ -26,7 +28,6 @@ use Rattle.records.specs.Layout.{share_kind, dealer_of, member_of, Z_of}
 use Rattle.lines.specs.Lines.{v_in}
 use Rattle.share.specs.Share.{opened_form}
 use Rattle.board.specs.Board.{board_checks, lines_of}
-use Rattle.board.proofs.Numbers.{board-met}
 use Rattle.verdicts.specs.Shares.{judges, recovered_from}
 use Rattle.verdicts.specs.Verdict.{is_accepted, commitments_of, encrypted_of, is_share_by, secret_by}
 use Rattle.verdicts.specs.Added.{added_by}
@@ -43,7 +44,6 @@ use Rattle.demand3.proofs.TwoBoards.{draw-by-round}
 use Rattle.conditions.specs.Boards.{uncarried_low, uncarried_high, added_board}
 use Rattle.conditions.specs.Claims.{polynomial_of, DrawIs, ConditionsMet, OtherConditions, EachCarried, AllTrue, CarriedNeeded, TrueNeeded, AddedMet, OtherAdded, AddedTrueNeeded}
 use Rattle.conditions.proofs.Known.{opened, Known, two-accepted, every_share, is_true_share, is_true_to_line, all_known, AddedKnown, all-added}
-use Rattle.std.specs.Prelude.{Ok}
 
 -- ---- a fact of each of four members
 by-four : (P : ℕ → Type 0) → P 1 → P 2 → P 3 → P 4 → (d : ℕ) → 1 ≤ d → d ≤ 4 → P d
@@ -69,7 +69,7 @@ end_of b vs is =
 -- ---- one board
 module _ {b vs : List ℕ} {s : Secret} (K : Known b vs s) where
   reached : Met (board_checks small b)
-  reached = board-met small b K.passes
+  reached = (value-exactly Unit (board_checks small b) tt).0 K.passes
 
   rule : (d : ℕ) → VerdictRule judges small b d
   rule = verdict-rules judges small small-proper b reached
@@ -130,7 +130,7 @@ module _ (b : List ℕ) (f : ℕ → Bool) (t : every_share b f ≡ true) where
       let s = share-address judges small b (opened_form d) (encrypted_of small b d) i e in
       let g : ℕ → Bool = λ k. pick (eqb (record_at b k).w0 share_kind) (eqb (dealer_of (record_at b k)) 1 && f k) true in
       let k : get_or (up_from 0 (records_in b)) i 0 ≡ i = up_at 0 (records_in b) i h ∙ omega arith in
-      let at = sym (g k) ∙ all-at g (up_from 0 (records_in b)) i 0 (rw up-length h) t in
+      let at = sym (ap g k) ∙ all-at g (up_from 0 (records_in b)) i 0 (rw up-length h) t in
       let two = and-true (eqb (dealer_of (record_at b i)) 1) (f i) (sym (pick_true (eqb (record_at b i).w0 share_kind) _ true (eq-eqb _ share_kind s.0)) ∙ at) in
       (sym (eqb-true _ 1 two.0) ∙ s.1, two.1)
 

@@ -5,10 +5,12 @@ use mathlib.Core.List.{List, [], ◌∷◌}
 use Prim.Native.Nat.{ℕ}
 use native.Mathlib.Omega.{arith}
 use lib.Dec.{eqb}
+use Rattle.std.specs.Prelude.{Ok, Err, is_ok}
 use Rattle.words.specs.Choice.{pick}
 use Rattle.words.specs.Lists.{map, all, up_from, entry}
-use Rattle.words.specs.Checks.{Outcome, refusal}
+use Rattle.words.specs.Checks.{Outcome, outcome}
 use Rattle.words.specs.Bytes.{word_at, word_bytes, words_bytes, record_bytes, record_in, records_in, record_at, agrees}
+use Rattle.words.specs.declared.refusal.Refusal.TheVariants.{DegreeFails}
 use Rattle.field.specs.Residue.{add, mul, sub, inv}
 use Rattle.field.specs.Polynomial.{value_at}
 use Rattle.group.specs.Power.{pow}
@@ -36,8 +38,6 @@ use Rattle.demand3.specs.Claims.{power_of_h}
 use Rattle.conditions.specs.Boards.{opened_board, silent_board, forged_board, uncarried_low, uncarried_high, added_board, forged_added}
 use Rattle.conditions.specs.Claims.{polynomial_of}
 use Rattle.conditions.proofs.Answers.{answers}
-use Rattle.std.specs.Prelude.{Err, is_ok}
-use Rattle.words.specs.declared.refusal.Refusal.TheVariants.{DegreeFails}
 
 abbrev pub opened : ℕ → Secret
 opened v = Opened (record { 0 = v })
@@ -52,7 +52,7 @@ NoLines b d = (is_accepted judges small b d ≡ false) × (verdict_on judges sma
 -- nothing refuses the board before the verdicts; the dealings of 1 and 2 are accepted, that of 1 with the commitments vs and the
 -- secret s; the others have no lines
 pub record Known (b vs : List ℕ) (s : Secret) : Type 0 where
-  pub passes : refusal (board_checks small b) ≡ 0
+  pub passes : outcome (board_checks small b) tt ≡ Ok (tt {0})
   pub first : is_accepted judges small b 1 ≡ true
   pub second : is_accepted judges small b 2 ≡ true
   pub first-secret : secret_by judges small b 1 ≡ s
@@ -61,7 +61,7 @@ pub record Known (b vs : List ℕ) (s : Secret) : Type 0 where
   pub third : NoLines b 3
   pub fourth : NoLines b 4
 
-known : (b : List ℕ) {vs : List ℕ} {s : Secret} → refusal (board_checks small b) ≡ 0
+known : (b : List ℕ) {vs : List ℕ} {s : Secret} → outcome (board_checks small b) tt ≡ Ok (tt {0})
     → is_accepted judges small b 1 ≡ true → is_accepted judges small b 2 ≡ true → secret_by judges small b 1 ≡ s → secret_by judges small b 2 ≡ opened 3
     → (commitments_of small b 1 ≡ vs) × (commitments_of small b 2 ≡ 6 ∷ 18 ∷ 8 ∷ 1 ∷ []) → NoLines b 3 → NoLines b 4 → Known b vs s
 known b p f s e g c t u =

@@ -3,6 +3,7 @@
 use Rattle.std.specs.Prelude.{◌≡◌, List, ◌++◌, ℕ, Err}
 use Rattle.words.specs.Checks.{Met}
 use Rattle.words.specs.Bytes.{record_bytes}
+use Rattle.words.specs.declared.refusal.Refusal.TheVariants.{TooFew, SameKey}
 use Rattle.sharing.specs.Figures.{small}
 use Rattle.records.specs.Layout.{key_layout}
 use Rattle.records.specs.Claims.{KeyTwice}
@@ -10,7 +11,6 @@ use Rattle.board.specs.Board.{keys_in}
 use Rattle.verdicts.specs.Shares.{judges}
 use Rattle.verdicts.specs.Draw.{draw_in}
 use Rattle.demand3.specs.Filed.{OfThen, filed_board_checks, filed_draw}
-use Rattle.words.specs.declared.refusal.Refusal.TheVariants.{TooFew, SameKey}
 
 abbrev pub equal_keys : List ℕ
 equal_keys = record_bytes (key_layout 1 4 0) ++ (record_bytes (key_layout 2 9 0) ++ (record_bytes (key_layout 3 2 0) ++ record_bytes (key_layout 4 4 0)))

@@ -8,6 +8,7 @@ use native.Mathlib.Omega.{arith}
 use borrow.Author.Tests.{eq-eqb, eqb-true}
 use lib.ListN.{length, take, drop, length-take, length-drop}
 use lib.Dec.{eqb}
+use Rattle.std.specs.Prelude.{Ok, is_ok}
 use Rattle.words.specs.Checks.{Met}
 use Rattle.words.specs.Bytes.{record_in, records_in, record_at, agrees}
 use Rattle.words.specs.declared.Record.{Record}
@@ -52,7 +53,6 @@ use Rattle.demand3.specs.Complete.{WrittenLines, OpeningOn, WrittenShare, Opened
 use Rattle.demand3.proofs.VerdictCases.{verdict-rules}
 use Rattle.demand3.proofs.Honest.{share-written, product-power}
 use Rattle.demand3.proofs.Counted.{counted}
-use Rattle.std.specs.Prelude.{Ok, is_ok}
 
 module _ (S : Setting) (P : ProperSetting S) (word : S.round < 2 ^ 32) (b : List ℕ) (met : Met (board_checks S b)) where
   abbrev G : Group

@@ -60,7 +60,7 @@ counted g n f (m ∷ ms) d a =
     let rest = counted g n (but f i) ms d.1
     (All-both ms
     (λ k u s.
-    let apart = ne_eqb s.0 i (λ e. u (sym a.0.3 ∙ g (sym e) ∙ s.3)) in
+    let apart = ne_eqb s.0 i (λ e. u (sym a.0.3 ∙ ap g (sym e) ∙ s.3)) in
     (s.0, s.1, pick-false (eqb s.0 i) false (f s.0) apart ∙ s.2, s.3))
     d.0 a.1) in
     omega arith

@@ -5,23 +5,24 @@ use mathlib.Core.Bool.{Bool, true, false}
 use mathlib.Core.List.{List, [], ◌∷◌, ◌++◌, append_assoc}
 use mathlib.Core.Logic.{⊎_elim}
 use Prim.Native.Nat.{ℕ, zero, suc, ◌*◌}
-use native.Mathlib.Omega.{arith}
 use lib.ListN.{take, drop, replicate}
 use lib.Dec.{leb, eqb}
+use Rattle.std.specs.Prelude.{Ok, Err}
 use Rattle.words.specs.Choice.{pick}
 use Rattle.words.specs.Lists.{All, map, up_from, entry}
-use Rattle.words.specs.Checks.{Check, outcome, Met}
+use Rattle.words.specs.Checks.{Check, Outcome, outcome, Met}
 use Rattle.words.specs.Bytes.{record_in, record_at}
+use Rattle.words.specs.declared.refusal.Refusal.TheVariants.{NoElement}
 use Rattle.words.proofs.Lists.{All-each, All-to, map-all}
 use Rattle.words.proofs.Tests.{false-true, and-true, pick_true}
-use Rattle.words.proofs.Checks.{value-met, value-exactly, is-value, either_way, never-among}
+use Rattle.words.proofs.Checks.{value-met, value-exactly, is-value, never-among}
 use Rattle.words.proofs.Stages.{both-met, met-both, rest-outcome, settled-behind}
 use Rattle.group.specs.Table.{groups_of, table_checks, group_of, group_checks, in_group}
 use Rattle.group.specs.Element.{is_element, Proper}
 use Rattle.group.specs.declared.Element.{Element}
 use Rattle.group.specs.declared.Group.{Group}
 use Rattle.group.proofs.Elements.{generator-element, product-element, power-element}
-use Rattle.sharing.specs.Setting.{ProperSetting, setting_in, round_figures, round_checks, judged_else}
+use Rattle.sharing.specs.Setting.{ProperSetting, setting_in, round_figures, round_checks}
 use Rattle.sharing.specs.Weights.{powers_product}
 use Rattle.sharing.specs.Answer.{recovered}
 use Rattle.sharing.specs.declared.Round.{Round}
@@ -38,11 +39,13 @@ use Rattle.board.proofs.Order.{Reached, reached}
 use Rattle.verdicts.specs.Shares.{Judges, judges, recovered_from, share_answer, is_share_in}
 use Rattle.verdicts.specs.Verdict.{encrypted_of, secret_by, verdict_on}
 use Rattle.verdicts.specs.Added.{accepted_dealers, multiplied}
-use Rattle.verdicts.specs.Draw.{secret_value, draw_checks, board_draw_checks, draw_value, draw_in, draw_outcome, place_for, verdict_places, no_verdicts}
+use Rattle.verdicts.specs.Draw.{secret_value, draw_checks, board_draw_checks, draw_value, draw_in, draw_outcome, place_for, verdict_places}
+use Rattle.verdicts.specs.declared.Judgement.{Judgement}
 use Rattle.verdicts.specs.declared.Secret.{Secret}
 use Rattle.verdicts.specs.declared.Secret.TheVariants.{Opened, Recovered}
 use Rattle.verdicts.specs.declared.Verdict.{Verdict}
 use Rattle.verdicts.specs.declared.Verdict.TheVariants.{None, Accepted}
+use Rattle.rulings.specs.Ruling.{JudgementOf, verdicts_of}
 use Rattle.plots.specs.Picked.{plot_checks, pick_checks, pick_outcome}
 use Rattle.chain.specs.Link.{value_checks}
 use Rattle.chain.specs.Chain.{chain_checks, chain_outcome, extend_checks, extend_outcome}
@@ -52,7 +55,6 @@ use Rattle.demand3.proofs.Serving.{serving, serving-shares}
 use Rattle.demand3.proofs.Sources.{Source, opened, recovers, stuck, source_of}
 use Rattle.demand3.proofs.VerdictCases.{verdict-rules}
 use Rattle.demand3.proofs.Endings.{end-rules}
-use Rattle.std.specs.Prelude.{Ok}
 
 -- ---- products of powers of elements
 module _ (G : Group) (P : Proper G) where
@@ -163,21 +165,15 @@ module _ (T : List ℕ) (R : Round) (b : List ℕ) where
       let m = met-both (board_checks S b) (draw_checks judges S b) (value-met (board_draw_checks judges S b) (draw_value judges S b) v s.1).0 in
       (s.0, (elements s.0 m.0).draw v s.1)
 
+  secrets : (o : Outcome Judgement) → JudgementOf judges T R b o → All (SecretElement S.group) (verdicts_of o)
+  secrets (Ok A) j =
+      let s = met-both (round_checks T R) (board_checks S b) j.0 in
+      subst (All (SecretElement S.group)) (sym j.1.verdicts)
+      (each-place S.group (verdict_on judges S b) S.n (elements s.0 s.1).secret)
+  secrets (Err k) u = none-places S.group 31
+
 pub answers-elements : AnswersElements
-unfolding judged_else
-answers-elements T R b =
-    let S : Setting = setting_in T R in
-    let G : Group = S.group in
-    record {
-      secrets = λ A j.
-          subst (All (SecretElement G)) (sym j.verdicts)
-          (either_way (All (SecretElement G)) (round_checks T R ++ board_checks S b) (verdict_places (verdict_on judges S b) S.n) no_verdicts
-          (λ m.
-          let s = met-both (round_checks T R) (board_checks S b) m in
-          each-place G (verdict_on judges S b) S.n (elements T R b s.0 s.1).secret)
-          (none-places G 31));
-      draw = λ v e. (drawn-round T R b v e).1;
-    }
+answers-elements T R b = record { secrets = secrets T R b; draw = λ v e. (drawn-round T R b v e).1 }
 
 -- ---- the draw value handed on
 module _ (T : List ℕ) (R : Round) (b : List ℕ) (v : Element) (e : draw_outcome judges T R b ≡ Ok v) where
@@ -213,7 +209,7 @@ draw-picks T R b v e radius N k room =
     let a = picks T R b v e radius N k room in
     record {
       answer = a;
-      not-by-6 = λ f. never-among (plot_checks radius N k room) tt 6 (λ z. omega arith, (λ z. omega arith, (λ z. omega arith, tt))) (sym a ∙ f);
+      not-by-6 = λ f. never-among (plot_checks radius N k room) tt NoElement (λ z. cc, (λ z. cc, (λ z. cc, tt))) (sym a ∙ f);
     }
 
 pub draw-extends : DrawExtends
@@ -222,5 +218,5 @@ draw-extends T R b v e c room =
     record {
       answer = extends T R b v e c room;
       accepted = a;
-      not-by-6 = λ m f. never-among (link_room c room) tt 6 (λ z. omega arith, tt) (sym (a m) ∙ f);
+      not-by-6 = λ m f. never-among (link_room c room) tt NoElement (λ z. cc, tt) (sym (a m) ∙ f);
     }

@@ -10,9 +10,11 @@ use native.Mathlib.Omega.{arith}
 use borrow.Author.Tests.{leb-true, leb-false}
 use lib.ListN.{length, take}
 use lib.Dec.{leb}
+use Rattle.std.specs.Prelude.{Ok, Err}
 use Rattle.words.specs.Choice.{pick}
 use Rattle.words.specs.Lists.{map, up_from}
 use Rattle.words.specs.Checks.{outcome, Met}
+use Rattle.words.specs.declared.refusal.Refusal.TheVariants.{StillStuck, TooFew}
 use Rattle.words.proofs.Tests.{false-true, pick_true, pick-false}
 use Rattle.words.proofs.Stages.{rest-outcome, front-outcome}
 use Rattle.group.specs.declared.Element.{Element}
@@ -34,8 +36,6 @@ use Rattle.verdicts.specs.declared.Verdict.TheVariants.{None, Refused, Accepted}
 use Rattle.demand3.specs.Claims.{SomeStuck, RefusedBefore, DrawnBySecrets, DrawnByAdded, EndRules}
 use Rattle.demand3.proofs.Serving.{shares-ascend}
 use Rattle.demand3.proofs.VerdictCases.{Case, no_lines, some-lines, refused-lines, accepted-lines, case-of}
-use Rattle.std.specs.Prelude.{Ok, Err}
-use Rattle.words.specs.declared.refusal.Refusal.TheVariants.{StillStuck, TooFew}
 
 -- ---- refused before the verdicts
 pub refused-before : RefusedBefore
@@ -174,13 +174,13 @@ module _ (J : Judges) (S : Setting) (P : ProperSetting S) (b : List ℕ) (m : Me
 module _ {J : Judges} {S : Setting} {b : List ℕ} where
   fourteen-exactly : End J S b → (draw_in J S b ≡ Err TooFew) ↔ (length (accepted_dealers J S b) < S.t)
   fourteen-exactly (fourteen l e) = (λ h. l, λ h. e)
-  fourteen-exactly (thirteen l s u e) = (λ h. let z : ◌≡◌ {A = ℕ} 13 14 = cc in absurd (omega arith), λ h. absurd (omega arith))
+  fourteen-exactly (thirteen l s u e) = (λ h. absurd (false-true (cc)), λ h. absurd (omega arith))
   fourteen-exactly (drawn l n e) = (λ h. absurd (false-true (cc)), λ h. absurd (omega arith))
   fourteen-exactly (added l s u e) = (λ h. absurd (false-true (cc)), λ h. absurd (omega arith))
 
   thirteen-exactly : End J S b → (draw_in J S b ≡ Err StillStuck)
       ↔ ((S.t ≤ length (accepted_dealers J S b)) × SomeStuck J S b × (length (added_by J S b) < S.t))
-  thirteen-exactly (fourteen l e) = (λ h. let z : ◌≡◌ {A = ℕ} 13 14 = cc in absurd (omega arith), λ h. absurd (omega (arith, h.0)))
+  thirteen-exactly (fourteen l e) = (λ h. absurd (false-true (cc)), λ h. absurd (omega (arith, h.0)))
   thirteen-exactly (thirteen l s u e) = (λ h. (l, s, u), λ h. e)
   thirteen-exactly (drawn l n e) = (λ h. absurd (false-true (cc)), λ h. absurd (n h.1))
   thirteen-exactly (added l s u e) = (λ h. absurd (false-true (cc)), λ h. absurd (omega (arith, h.2)))

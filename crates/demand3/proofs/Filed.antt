@@ -15,6 +15,7 @@ use Rattle.words.specs.Lists.{Distinct, all, map, none_twice, up_from, entry}
 use Rattle.words.specs.Checks.{Check, ◌unless◌, outcome, Met, FirstUnmet}
 use Rattle.words.specs.Bytes.{record_in, records_in, record_at, agrees}
 use Rattle.words.specs.declared.Record.{Record}
+use Rattle.words.specs.declared.refusal.Refusal.TheVariants.{BadLength, BadForm, NoElement, NoExponent, DegreeFails, ProofFails, Incomplete, StillStuck, TooFew, OtherRound, SameKey}
 use Rattle.words.proofs.Tests.{false-true, true-distinct}
 use Rattle.words.proofs.Stages.{both-met, met-both, rest-first, settled-outcome}
 use Rattle.words.proofs.Alike.{Alike, alike-behind, alike-before, alike-outcome}
@@ -52,11 +53,10 @@ use Rattle.demand3.specs.Filed.{filed_shaped, filed_end_checks, filed_record_che
 use Rattle.demand3.proofs.Endings.{refused-before}
 use Rattle.demand3.proofs.SameJudges.{same-verdict}
 use Rattle.demand3.proofs.Rounds.{first-refusal, answered-by-setting}
-use Rattle.words.specs.declared.refusal.Refusal.TheVariants.{SameKey, BadLength, BadForm, NoElement, NoExponent, DegreeFails, ProofFails, Incomplete, StillStuck, TooFew}
 
 -- ---- round 0
 -- the test of word 7, which holds
-word-alike : (S : Setting) → S.round ≡ 0 → (x : ℕ) → x ≡ 0 → (eqb x S.round ≡ eqb x 0) × (eqb x 0 ≡ false → ◌≡◌ {A = ℕ} 17 4)
+word-alike : (S : Setting) → S.round ≡ 0 → (x : ℕ) → x ≡ 0 → (eqb x S.round ≡ eqb x 0) × (eqb x 0 ≡ false → OtherRound ≡ BadForm)
 word-alike S z x e = (ap (eqb x) z, λ f. absurd (false-true (sym f ∙ eq-eqb x 0 e)))
 
 module _ (S : Setting) (z : S.round ≡ 0) (o : S.whole_digest ≡ false) where
@@ -137,7 +137,8 @@ shaped-same n r h =
 
 -- a stuck dealing is the end, whatever there would be
 end_same : (c stuck : Bool) (u v : Element)
-    → outcome (TooFew unless c ∷ StillStuck unless pick stuck false true ∷ []) (pick stuck u v) ≡ outcome (TooFew unless c ∷ StillStuck unless not stuck ∷ []) v
+    → outcome (TooFew unless c ∷ StillStuck unless pick stuck false true ∷ []) (pick stuck u v)
+    ≡ outcome (TooFew unless c ∷ StillStuck unless not stuck ∷ []) v
 end_same c true u v = refl
 end_same c false u v = refl
 
@@ -212,7 +213,7 @@ filed-as-before S P z o b w n =
     record { before = filed_before S z b w n; verdict = filed-verdict S P z o b w; draw = filed-draw S P z o b w n }
 
 pub filed-key-twice : FiledKeyTwice
-filed-key-twice S z b w m T = refused-before judges S b 22 (filed-twice S z b w m T)
+filed-key-twice S z b w m T = refused-before judges S b SameKey (filed-twice S z b w m T)
 
 -- ---- over a table and a round
 pub filed-over-round : FiledOverRound
@@ -227,4 +228,5 @@ filed-set s z f = λ j.
 
 pub filed-twice-over-round : FiledTwiceOverRound
 filed-twice-over-round T R m z b w k t =
-    first-refusal judges T R b 22 (rest-first (round_checks T R) (board_checks (setting_in T R) b) 22 m (filed-twice (setting_in T R) z b w k t))
+    first-refusal judges T R b SameKey
+    (rest-first (round_checks T R) (board_checks (setting_in T R) b) SameKey m (filed-twice (setting_in T R) z b w k t))

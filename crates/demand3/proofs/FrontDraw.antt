@@ -9,9 +9,11 @@ use native.Mathlib.Omega.{arith}
 use borrow.Author.Tests.{lt-leb}
 use lib.ListN.{length, take}
 use lib.Dec.{leb}
+use Rattle.std.specs.Prelude.{Ok, Err}
 use Rattle.words.specs.Choice.{pick}
 use Rattle.words.specs.Checks.{◌unless◌, Outcome, outcome, Met}
 use Rattle.words.specs.declared.Record.{Record}
+use Rattle.words.specs.declared.refusal.Refusal.TheVariants.{StillStuck, TooFew}
 use Rattle.words.proofs.Lists.{All-each, map_same}
 use Rattle.words.proofs.Stages.{rest-outcome}
 use Rattle.group.specs.declared.Element.{Element}
@@ -31,8 +33,6 @@ use Rattle.demand3.specs.KindFive.{AddedAtEnd}
 use Rattle.demand3.proofs.Front.{Front, front_of, record_same}
 use Rattle.demand3.proofs.Found.{reached-front}
 use Rattle.demand3.proofs.FrontVerdicts.{accepted-same, verdict-same}
-use Rattle.std.specs.Prelude.{Ok, Err}
-use Rattle.words.specs.declared.refusal.Refusal.TheVariants.{StillStuck, TooFew}
 
 -- ---- an end by its tests: enough dealings, a stuck one, enough added shares; by what the added shares recover, and by the product
 abbrev ending : Bool → Bool → Bool → Element → Element → Outcome Element

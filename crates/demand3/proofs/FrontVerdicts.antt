@@ -10,11 +10,13 @@ use native.Mathlib.Omega.{arith}
 use borrow.Author.Tests.{lt-ltb, le-ltb, eqb-true}
 use lib.ListN.{length, take, drop}
 use lib.Dec.{leb, ltb, eqb}
+use Rattle.std.specs.Prelude.{is_ok}
 use Rattle.words.specs.Choice.{pick}
 use Rattle.words.specs.Lists.{All, map, up_from, entry}
 use Rattle.words.specs.Checks.{◌unless◌, Outcome, outcome, Met}
 use Rattle.words.specs.Bytes.{records_in, record_at}
 use Rattle.words.specs.declared.Record.{Record}
+use Rattle.words.specs.declared.refusal.Refusal.TheVariants.{Incomplete, StillStuck}
 use Rattle.words.proofs.Lists.{All-to, All-take, map_same, up-within}
 use Rattle.words.proofs.Tests.{pick-false}
 use Rattle.group.specs.Power.{pow}
@@ -36,8 +38,6 @@ use Rattle.verdicts.specs.declared.Verdict.TheVariants.{None, Refused}
 use Rattle.verdicts.proofs.ShareAnswers.{share-address}
 use Rattle.demand3.proofs.Front.{Front, bytes_same, record_same}
 use Rattle.demand3.proofs.Found.{line-count-same, lines_same, record-found, key-same, keys-same}
-use Rattle.std.specs.Prelude.{is_ok}
-use Rattle.words.specs.declared.refusal.Refusal.TheVariants.{Incomplete, StillStuck}
 
 -- what stands behind a test counts only where it holds
 behind_test : (x : Bool) {y z : Bool} → (x ≡ true → y ≡ z) → x && y ≡ x && z

@@ -7,6 +7,7 @@ use Prim.Native.Nat.{ℕ, ◌*◌, ◌^◌, ◌≤◌, ◌<◌}
 use native.Mathlib.Omega.{arith}
 use borrow.Author.Tests.{le-leb, lt-ltb}
 use lib.Dec.{leb}
+use Rattle.std.specs.Prelude.{Ok}
 use Rattle.words.specs.Lists.{All, map}
 use Rattle.words.proofs.Lists.{All-to, All-both, map_same}
 use Rattle.words.proofs.Tests.{true-and}
@@ -34,7 +35,6 @@ use Rattle.share.proofs.Keys.{h-element, share-true}
 use Rattle.share.proofs.Shares.{share-complete}
 use Rattle.demand3.specs.Claims.{power_of_h}
 use Rattle.demand3.specs.Honest.{HoldsKey, line_Y, lines_Y, LineShareAccepted, WrittenRecovered, AddedShareAccepted}
-use Rattle.std.specs.Prelude.{Ok}
 
 -- ---- in any form, a member writes a share of an element with a secret key, and it is accepted with its key
 module _ (S : Setting) (P : ProperSetting S) (word : S.round < 2 ^ 32) (F : ShareForm) (D : is_dealer S.n F ≡ true) (kind : F.kind < 2 ^ 32)

@@ -2,14 +2,16 @@
 -- setting agree over them.
 use mathlib.Core.Path.{◌≡◌, refl, sym, ap, ◌∙◌, subst}
 use mathlib.Core.List.{List, ◌++◌, append_assoc}
+use mathlib.Core.Logic.{◌↔◌}
 use Prim.Native.Nat.{ℕ}
+use Rattle.std.specs.Prelude.{Ok, Err}
 use Rattle.words.specs.Lists.{map}
 use Rattle.words.specs.Checks.{Check, Outcome, outcome, Met, FirstUnmet}
-use Rattle.words.proofs.Tests.{false-true}
-use Rattle.words.proofs.Checks.{if-unmet, refused-exactly}
+use Rattle.words.specs.declared.refusal.Refusal.{Refusal}
+use Rattle.words.specs.declared.refusal.Refusal.TheVariants.{OtherRound, SameKey}
+use Rattle.words.proofs.Checks.{value-exactly, refused-exactly}
 use Rattle.words.proofs.Stages.{met-both, rest-first, front-outcome}
 use Rattle.words.proofs.RefuseAlike.{same-behind, same-value, same-choice}
-use Rattle.group.specs.declared.Element.{Element}
 use Rattle.sharing.specs.Setting.{setting_in, round_checks, judged, judged_else, members}
 use Rattle.sharing.specs.declared.Round.{Round}
 use Rattle.sharing.specs.declared.Setting.{Setting}
@@ -17,24 +19,15 @@ use Rattle.board.specs.Board.{form_checks, board_key_checks, board_checks}
 use Rattle.board.proofs.Order.{board-of-other-round}
 use Rattle.board.proofs.KeyRecords.{board-key-twice}
 use Rattle.verdicts.specs.Shares.{Judges, judges}
-use Rattle.verdicts.specs.Verdict.{verdict_on, verdicts_on}
+use Rattle.verdicts.specs.Verdict.{verdict_on}
 use Rattle.verdicts.specs.Draw.{count_accepted, draw_checks, draw_value, draw_in, draw_outcome, verdict_places, no_verdicts}
 use Rattle.verdicts.specs.declared.Judgement.{Judgement}
-use Rattle.rulings.specs.Ruling.{JudgementOf, refused_board}
+use Rattle.rulings.specs.Ruling.{JudgementOf, verdicts_of, count_of}
 use Rattle.rulings.specs.Files.{round_in, file_checks}
+use Rattle.rulings.proofs.Theorems.{judgement-exactly}
 use Rattle.text.specs.Text.{refused_line, dealer_lines, accepted_line, draw_line, round_line, text_of, report, board_text, draw_text}
 use Rattle.text.proofs.Reports.{text-passed}
-use Rattle.demand3.specs.Rounds.{FirstRefusal, OtherRoundRefused, KeyTwiceRefused, BoardJudge, draw_over, places_over, count_over, report_by, text_over, JudgedAs, AnsweredBySetting}
-use Rattle.std.specs.Prelude.{Ok, Err, is_ok}
-use Rattle.words.specs.declared.refusal.Refusal.{Refusal}
-
-refused-answer : (a : Outcome Element) {k : Refusal} → a ≡ Err k → a ≡ Err k
-refused-answer (Ok v) e = absurd (false-true (sym (ap is_ok e)))
-refused-answer (Err i) {k} e = ap Err (ap number e)
-  where
-    number : Outcome Element → ℕ
-    number (Ok v) = 0
-    number (Err j) = j
+use Rattle.demand3.specs.Rounds.{FirstRefusal, OtherRoundRefused, KeyTwiceRefused, BoardJudge, checks_over, draw_over, places_over, count_over, report_by, text_over, JudgedAs, AnsweredBySetting}
 
 module _ (T : List ℕ) (R : Round) (b : List ℕ) where
   abbrev S : Setting
@@ -53,13 +46,15 @@ module _ (T : List ℕ) (R : Round) (b : List ℕ) where
         (front-outcome own (draw_checks J S b) k u (draw_value J S b)
         ∙ ap (λ (cs : List Check). outcome cs (draw_value J S b)) (append_assoc (round_checks T R) (board_checks S b) (draw_checks J S b)))
 
-    no-verdict : (A : Judgement) → JudgementOf J T R b A → A ≡ refused_board k
-    unfolding judged_else refused_board
-    no-verdict A a =
-        let verdicts = a.verdicts ∙ if-unmet (verdict_places (verdict_on J S b) S.n) no_verdicts own k u in
-        let accepted = a.accepted ∙ if-unmet (count_accepted (verdicts_on J S b)) 0 own k u in
-        let draw = refused-answer A.draw (a.draw ∙ no-draw) in
-        λ j. record { verdicts = verdicts j; accepted = accepted j; draw = draw j }
+    no-verdict : (o : Outcome Judgement) → JudgementOf J T R b o → o ≡ Err k
+    no-verdict (Ok A) a =
+        let met = (value-exactly Unit own tt).1 a.0 in
+        let refused = (refused-exactly Unit own tt k).1 u in
+        cc
+    no-verdict (Err i) v =
+        let first = (refused-exactly Unit own tt i).1 v in
+        let refused = (refused-exactly Unit own tt k).1 u in
+        cc
 
     one_line : (s : List ℕ) → Met (file_checks T s) → round_in s ≡ R → draw_text J T s b ≡ refused_line k
     unfolding draw_text board_text judged
@@ -71,7 +66,7 @@ module _ (T : List ℕ) (R : Round) (b : List ℕ) where
   -- ---- judged as by another board judge in their setting
   module _ (B : BoardJudge) (h : Met (round_checks T R) → JudgedAs B S b) where
     abbrev other : List Check
-    other = round_checks T R ++ B.before S b
+    other = checks_over B T R b
 
     before : outcome own tt ≡ outcome other (tt {0})
     before = same-behind (round_checks T R) (round_checks T R) refl (board_checks S b) (B.before S b) tt tt (λ m. (h m).before)
@@ -93,13 +88,27 @@ module _ (T : List ℕ) (R : Round) (b : List ℕ) where
           let vs = map (λ d. verdict d j) (members S.n) in
           round_line S ++ (dealer_lines 1 vs ++ (accepted_line (count_accepted vs) ++ draw_line ((h both.0).draw j)))
 
-    verdicts-over : (A : Judgement) → JudgementOf judges T R b A → A.verdicts ≡ places_over B T R b
-    unfolding judged_else
-    verdicts-over A a = a.verdicts ∙ same-choice own other before _ _ no_verdicts (λ m j. verdict_places (λ d. verdict m d j) S.n)
+    refused-over : (o : Outcome Judgement) → JudgementOf judges T R b o → (k : Refusal) → (o ≡ Err k) ↔ FirstUnmet k other
+    refused-over (Ok A) a k =
+        let met = (value-exactly Unit own tt).1 a.0 in
+        (λ e. absurd (cc), λ u. let refused = before ∙ (refused-exactly Unit other tt k).1 u in cc)
+    refused-over (Err i) v k =
+        let first = sym before ∙ (refused-exactly Unit own tt i).1 v in (
+          λ e. let same : i ≡ k = cc in (refused-exactly Unit other tt k).0 (first ∙ ap Err same),
+          λ u. let refused = (refused-exactly Unit other tt k).1 u in cc,
+        )
 
-    accepted-over : (A : Judgement) → JudgementOf judges T R b A → A.accepted ≡ count_over B T R b
+    verdicts-over : (o : Outcome Judgement) → JudgementOf judges T R b o → verdicts_of o ≡ places_over B T R b
     unfolding judged_else
-    accepted-over A a = a.accepted ∙ same-choice own other before _ _ 0 (λ m j. count_accepted (map (λ d. verdict m d j) (members S.n)))
+    verdicts-over o a =
+        (judgement-exactly judges T R b o a).verdicts
+        ∙ same-choice own other before _ _ no_verdicts (λ m j. verdict_places (λ d. verdict m d j) S.n)
+
+    accepted-over : (o : Outcome Judgement) → JudgementOf judges T R b o → count_of o ≡ count_over B T R b
+    unfolding judged_else
+    accepted-over o a =
+        (judgement-exactly judges T R b o a).accepted
+        ∙ same-choice own other before _ _ 0 (λ m j. count_accepted (map (λ d. verdict m d j) (members S.n)))
 
     board-text : board_text judges T R b ≡ text_of (judged T R (λ S. B.before S b) (λ S. report_by B S b))
     unfolding board_text judged
@@ -116,19 +125,25 @@ first-refusal J T R b k u = record { draw = no-draw T R b J k u; answer = no-ver
 
 pub answered-by-setting : AnsweredBySetting
 answered-by-setting B T R b h =
-    record { draw = draw-over T R b B h; verdicts = verdicts-over T R b B h; accepted = accepted-over T R b B h; text = text-over T R b B h }
+    record {
+      draw = draw-over T R b B h;
+      refused = refused-over T R b B h;
+      verdicts = verdicts-over T R b B h;
+      accepted = accepted-over T R b B h;
+      text = text-over T R b B h;
+    }
 
 -- ---- by 17 and by 22
 pub other-round-refused : OtherRoundRefused
 unfolding board_checks
 other-round-refused J T R m b i h before shaped other =
     let S : Setting = setting_in T R in
-    first-refusal J T R b 17
-    (rest-first (round_checks T R) (board_checks S b) 17 m
-    ((refused-exactly Unit (board_checks S b) tt 17).0
-    (sym (front-outcome (form_checks S b) (board_key_checks S b) 17 (board-of-other-round S b i h before shaped other) tt))))
+    first-refusal J T R b OtherRound
+    (rest-first (round_checks T R) (board_checks S b) OtherRound m
+    ((refused-exactly Unit (board_checks S b) tt OtherRound).0
+    (sym (front-outcome (form_checks S b) (board_key_checks S b) OtherRound (board-of-other-round S b i h before shaped other) tt))))
 
 pub key-twice-refused : KeyTwiceRefused
 key-twice-refused J T R m b form keys twice =
     let S : Setting = setting_in T R in
-    first-refusal J T R b 22 (rest-first (round_checks T R) (board_checks S b) 22 m (board-key-twice S b form keys twice))
+    first-refusal J T R b SameKey (rest-first (round_checks T R) (board_checks S b) SameKey m (board-key-twice S b form keys twice))

@@ -5,9 +5,11 @@ use mathlib.Core.List.{List, [], ◌∷◌, ◌++◌}
 use Prim.Native.Nat.{ℕ, zero, suc}
 use borrow.Author.Tests.{eq-eqb}
 use lib.Dec.{eqb}
+use Rattle.std.specs.Prelude.{Ok, Err}
 use Rattle.words.specs.Lists.{all}
 use Rattle.words.specs.Checks.{Check, ◌unless◌, outcome, Met}
 use Rattle.words.specs.Bytes.{record_in, records_in}
+use Rattle.words.specs.declared.refusal.Refusal.TheVariants.{DegreeFails, NoElement, NoExponent, NoMember, ProofFails}
 use Rattle.words.proofs.Tests.{pick_true}
 use Rattle.words.proofs.Checks.{value-met}
 use Rattle.words.proofs.Stages.{met-both, rest-outcome}
@@ -29,8 +31,6 @@ use Rattle.share.specs.Share.{members_checks, share_admission_checks, share_reco
 use Rattle.share.specs.declared.ShareForm.{ShareForm}
 use Rattle.board.specs.Board.{one_record_checks, record_checks, length_checks, form_checks, board_key_checks, board_checks, lines_checks}
 use Rattle.demand3.specs.Rules.{under_rule, UnderOtherRule}
-use Rattle.std.specs.Prelude.{Ok, Err}
-use Rattle.words.specs.declared.refusal.Refusal.TheVariants.{DegreeFails, NoElement, NoExponent, NoMember, ProofFails}
 
 -- of checks in three stages that are all met: with other checks in the third, these alone decide
 last-decides : {A : Type 0} (front ranges own other : List Check) → Met (front ++ (ranges ++ own)) → (a : A)
@@ -70,7 +70,8 @@ module _ (S : Setting) (whole : Bool) where
         last-decides form ranges (equations S) (equations T) (value-met (form ++ (ranges ++ equations S)) tt tt e).0 tt
 
     by-challenges : ProperSetting S → (f : List ℕ) → Carries S f (vs_in S.n b)
-        → judge_dealing_in T d ys b ≡ outcome (ProofFails unless all (λ i. eqb (c_in b i) (recomputed T d ys (v_in b) (Y_in b) (r_in b) (c_in b))) (members S.n) ∷ []) tt
+        → judge_dealing_in T d ys b
+        ≡ outcome (ProofFails unless all (λ i. eqb (c_in b i) (recomputed T d ys (v_in b) (Y_in b) (r_in b) (c_in b))) (members S.n) ∷ []) tt
     unfolding equation_checks vs_in
     by-challenges P f K =
         let vs = vs_in S.n b in

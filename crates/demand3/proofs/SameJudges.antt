@@ -7,6 +7,7 @@ use native.Mathlib.Omega.{arith}
 use borrow.Author.Tests.{eqb-true}
 use lib.ListN.{length, take}
 use lib.Dec.{eqb}
+use Rattle.std.specs.Prelude.{is_ok}
 use Rattle.words.specs.Choice.{pick}
 use Rattle.words.specs.Lists.{map, up_from}
 use Rattle.words.specs.Checks.{Outcome, outcome}
@@ -30,7 +31,6 @@ use Rattle.verdicts.specs.Added.{multiplied_at, multiplied, added_by}
 use Rattle.verdicts.specs.Draw.{count_accepted, any_stuck, secrets_product, end_checks, draw_checks, draw_value}
 use Rattle.verdicts.specs.declared.Secret.TheVariants.{Opened}
 use Rattle.verdicts.specs.declared.Verdict.TheVariants.{None}
-use Rattle.std.specs.Prelude.{is_ok}
 
 module _ (J K : Judges) (S : Setting) (b : List ℕ) where
   -- the same shares of a form

@@ -9,6 +9,7 @@ use native.Mathlib.Omega.{arith}
 use borrow.Author.Tests.{lt-ltb, ltb-true, leb-true, leb-false}
 use lib.ListN.{length, take}
 use lib.Dec.{leb, ltb}
+use Rattle.std.specs.Prelude.{is_ok}
 use Rattle.words.specs.Bytes.{records_in, record_at}
 use Rattle.words.proofs.Tests.{false-true, and-true, true-and, pick_true, pick-false}
 use Rattle.words.proofs.Checks.{is-value}
@@ -23,7 +24,6 @@ use Rattle.verdicts.specs.Shares.{Judges, recovered_from, from_lowest}
 use Rattle.verdicts.specs.Verdict.{commitments_of, shares_by, secret_from, from_shares, is_opened, secret_by}
 use Rattle.verdicts.specs.declared.Secret.TheVariants.{Opened, Recovered, Stuck}
 use Rattle.demand3.specs.Claims.{RightlyOpened, power_of_h}
-use Rattle.std.specs.Prelude.{is_ok}
 
 -- ---- the opening
 module _ {S : Setting} {b : List ℕ} (F : Reached S b) (d : ℕ) where

@@ -8,6 +8,7 @@ use mathlib.Core.Logic.{inl, inr, ⊎_elim}
 use Prim.Native.Nat.{ℕ, ◌≤◌, ◌<◌}
 use native.Mathlib.Omega.{arith}
 use lib.ListN.{length, take}
+use Rattle.std.specs.Prelude.{Ok}
 use Rattle.words.specs.Lists.{All, map}
 use Rattle.words.specs.Checks.{Met}
 use Rattle.words.specs.Bytes.{record_at}
@@ -39,7 +40,6 @@ use Rattle.demand3.proofs.Serving.{serving, serving-shares, serving-recover}
 use Rattle.demand3.proofs.Sources.{Source, opened, recovers, stuck, source_of, stuck-exactly}
 use Rattle.demand3.proofs.VerdictCases.{verdict-rules}
 use Rattle.demand3.proofs.Endings.{end-rules}
-use Rattle.std.specs.Prelude.{Ok}
 
 -- ---- one recoverable dealing
 module _ {J : Judges} {S : Setting} (P : ProperSetting S) {b : List ℕ} (F : Reached S b) {d : ℕ} {f : List ℕ} (A : Recoverable J S b d f) where

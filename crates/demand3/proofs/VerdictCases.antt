@@ -8,9 +8,12 @@ use native.Mathlib.Decide.{dec_le}
 use native.Mathlib.Omega.{arith}
 use borrow.Author.Tests.{ne_eqb, eqb-true, eqb-false}
 use lib.Dec.{eqb}
+use Rattle.std.specs.Prelude.{Ok, Err, is_ok}
 use Rattle.words.specs.Choice.{pick}
 use Rattle.words.specs.Checks.{Outcome}
 use Rattle.words.specs.Bytes.{records_in, record_at}
+use Rattle.words.specs.declared.refusal.Refusal.{Refusal}
+use Rattle.words.specs.declared.refusal.Refusal.TheVariants.{Incomplete}
 use Rattle.words.proofs.Tests.{false-true, pick_true, pick-false}
 use Rattle.sharing.specs.Setting.{ProperSetting}
 use Rattle.sharing.specs.declared.Setting.{Setting}
@@ -26,9 +29,6 @@ use Rattle.board.proofs.Order.{Reached, reached}
 use Rattle.demand3.proofs.Serving.{shares-ascend}
 use Rattle.demand3.proofs.Sources.{source_of, opened-exactly, recovers-exactly, stuck-exactly}
 use Rattle.board.proofs.LineRun.{lines-exact}
-use Rattle.std.specs.Prelude.{Ok, Err, is_ok}
-use Rattle.words.specs.declared.refusal.Refusal.TheVariants.{Incomplete}
-use Rattle.words.specs.declared.refusal.Refusal.{Refusal}
 
 -- ---- the four cases of a verdict
 pub data Case (J : Judges) (S : Setting) (b : List ℕ) (d : ℕ) : Type 0 where
@@ -83,8 +83,8 @@ module _ (J : Judges) {S : Setting} (P : ProperSetting S) {b : List ℕ} (F : Re
   none-exactly (accepted-lines l g a v) = (λ h. absurd (false-true (cc)), λ z. absurd (omega (arith, some-members)))
 
   -- ---- refused and accepted
-  refuses-exactly : Case J S b d → (k : ℕ) → (verdict_on J S b d ≡ Refused k)
-      ↔ (((line_count b d ≡ 0 → ⊥) × (line_count b d ≡ S.n → ⊥) × (k ≡ 12)) ⊎ ((line_count b d ≡ S.n) × (dealing_answer J S b d ≡ Err k)))
+  refuses-exactly : Case J S b d → (k : Refusal) → (verdict_on J S b d ≡ Refused k)
+      ↔ (((line_count b d ≡ 0 → ⊥) × (line_count b d ≡ S.n → ⊥) × (k ≡ Incomplete)) ⊎ ((line_count b d ≡ S.n) × (dealing_answer J S b d ≡ Err k)))
   refuses-exactly (no_lines z a v) k =
       (λ h. absurd (false-true (cc)), ⊎_elim (λ h. absurd (h.0 z)) (λ h. absurd (omega (arith, some-members, h.0))))
   refuses-exactly (some-lines n l a v) k = (λ h. inl (n, l, cc), ⊎_elim (λ h. v ∙ ap Refused (sym h.2)) (λ h. absurd (l h.0)))

@@ -7,6 +7,7 @@ use mathlib.Core.Logic.{inl, inr, ⊎_elim}
 use Prim.Native.Nat.{ℕ, ◌^◌, ◌<◌, ◌≤◌}
 use native.Mathlib.Omega.{arith}
 use lib.ListN.{length}
+use Rattle.std.specs.Prelude.{Ok}
 use Rattle.words.specs.Choice.{pick}
 use Rattle.words.specs.Lists.{All, map, entry}
 use Rattle.words.specs.Checks.{Outcome, Met}
@@ -32,7 +33,6 @@ use Rattle.demand3.specs.Complete.{WrittenLines, WrittenBoard, WrittenStuck, Eit
 use Rattle.demand3.proofs.Serving.{serving, serving-shares}
 use Rattle.demand3.proofs.TwoBoards.{same-draw-either}
 use Rattle.demand3.proofs.Complete.{lines-accepted, rightly, shares-enough, opened-true, opened-enough, added-kind, added_true}
-use Rattle.std.specs.Prelude.{Ok}
 
 -- a test that every number passes leaves none out
 filter-every : (t : ℕ → Bool) (xs : List ℕ) → All (λ x. t x ≡ true) xs → filter t xs ≡ xs

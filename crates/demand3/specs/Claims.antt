@@ -4,6 +4,8 @@ use Rattle.std.specs.Prelude.{◌≡◌, true, List, ◌⊎◌, ◌↔◌, ℕ, 
 use Rattle.words.specs.Lists.{All, map}
 use Rattle.words.specs.Checks.{Outcome, Met, FirstUnmet}
 use Rattle.words.specs.Bytes.{records_in, record_at}
+use Rattle.words.specs.declared.refusal.Refusal.{Refusal}
+use Rattle.words.specs.declared.refusal.Refusal.TheVariants.{Incomplete, StillStuck, TooFew}
 use Rattle.field.specs.Polynomial.{value_at}
 use Rattle.group.specs.Power.{pow}
 use Rattle.group.specs.declared.Element.{Element}
@@ -24,8 +26,6 @@ use Rattle.verdicts.specs.Draw.{count_accepted, secret_value, draw_in, draw_outc
 use Rattle.verdicts.specs.declared.Secret.{Secret}
 use Rattle.verdicts.specs.declared.Secret.TheVariants.{Opened, Recovered, Stuck}
 use Rattle.verdicts.specs.declared.Verdict.TheVariants.{None, Refused, Accepted}
-use Rattle.words.specs.declared.refusal.Refusal.TheVariants.{Incomplete, StillStuck, TooFew}
-use Rattle.words.specs.declared.refusal.Refusal.{Refusal}
 
 -- ---- words of the claims
 -- the board's kind 3 record of the dealer holds an opening accepted for his commitments

@@ -2,8 +2,9 @@
 -- picking plots and extending a chain take a draw value as the board judge answers it, and never refuse it by 6.
 use Rattle.std.specs.Prelude.{◌≡◌, true, ◌&&◌, List, [], ◌∷◌, ◌++◌, ◌⊎◌, ℕ, ltb, eqb, Ok, Err}
 use Rattle.words.specs.Lists.{All}
-use Rattle.words.specs.Checks.{Check, ◌unless◌, outcome, Met}
+use Rattle.words.specs.Checks.{Check, ◌unless◌, Outcome, outcome, Met}
 use Rattle.words.specs.Bytes.{record_in}
+use Rattle.words.specs.declared.refusal.Refusal.TheVariants.{BadLength, NoElement}
 use Rattle.group.specs.Element.{is_element}
 use Rattle.group.specs.declared.Element.{Element}
 use Rattle.group.specs.declared.Group.{Group}
@@ -23,7 +24,6 @@ use Rattle.verdicts.specs.declared.Verdict.TheVariants.{Accepted}
 use Rattle.rulings.specs.Ruling.{JudgementOf, verdicts_of}
 use Rattle.plots.specs.Picked.{plot_checks, pick_outcome}
 use Rattle.chain.specs.Chain.{links_in, chain_checks, chain_outcome, extend_outcome}
-use Rattle.words.specs.declared.refusal.Refusal.TheVariants.{BadLength, NoElement}
 
 -- ---- words of the claims
 -- the secret of a verdict, opened or recovered, is an element; the other verdicts have none
@@ -52,8 +52,7 @@ JudgesTakeElements = TakesElements judges
 
 -- so whatever the board judge answers over a table and a round lies in the round's group
 pub record ElementsAnswered (T : List ℕ) (R : Round) (b : List ℕ) : Type 0 where
-  pub secrets : (o : Outcome Judgement) → JudgementOf judges T R b o
-      → All (SecretElement (setting_in T R).group) (verdicts_of o)
+  pub secrets : (o : Outcome Judgement) → JudgementOf judges T R b o → All (SecretElement (setting_in T R).group) (verdicts_of o)
   pub draw : (v : Element) → draw_outcome judges T R b ≡ Ok v → is_element (setting_in T R).group v.0 ≡ true
 
 abbrev pub AnswersElements : Type 0

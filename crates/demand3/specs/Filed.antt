@@ -8,6 +8,7 @@ use Rattle.words.specs.Lists.{Distinct, all, map, up_from, entry}
 use Rattle.words.specs.Checks.{Check, ◌unless◌, Outcome, outcome, Met}
 use Rattle.words.specs.Bytes.{big_endian, record_in, records_in, record_at, agrees}
 use Rattle.words.specs.declared.Record.{Record}
+use Rattle.words.specs.declared.refusal.Refusal.TheVariants.{BadLength, BadForm, OutOfOrder, NoElement, NoExponent, NoMember, DegreeFails, ProofFails, Incomplete, StillStuck, TooFew, SameKey}
 use Rattle.sha256.specs.Hash.{hash}
 use Rattle.group.specs.Element.{is_element, is_exponent}
 use Rattle.group.specs.declared.Element.{Element}
@@ -30,7 +31,6 @@ use Rattle.verdicts.specs.Draw.{count_accepted, any_stuck, secrets_product, draw
 use Rattle.verdicts.specs.declared.Verdict.{Verdict}
 use Rattle.rulings.specs.Files.{set_checks}
 use Rattle.demand3.specs.Rounds.{RefusedOver, BoardJudge, draw_by, JudgedAs, AnsweredAs}
-use Rattle.words.specs.declared.refusal.Refusal.TheVariants.{BadLength, BadForm, OutOfOrder, NoElement, NoExponent, NoMember, DegreeFails, ProofFails, Incomplete, StillStuck, TooFew, SameKey}
 
 -- ---- the checks of the scope paper
 -- a record of its table, whose last kind is 4
@@ -167,4 +167,4 @@ FiledKeyTwice =
 abbrev pub FiledTwiceOverRound : Type 0
 FiledTwiceOverRound =
     (T : List ℕ) (R : Round) → Met (round_checks T R) → R.round ≡ 0 → (b : List ℕ) → OfThen b → Met (filed_board_checks (setting_in T R) b)
-    → KeyTwice (setting_in T R).group (keys_in R.n b) → RefusedOver judges T R b 22
+    → KeyTwice (setting_in T R).group (keys_in R.n b) → RefusedOver judges T R b SameKey

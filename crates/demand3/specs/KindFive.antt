@@ -3,6 +3,7 @@
 use Rattle.std.specs.Prelude.{◌≡◌, List, ◌⊎◌, ℕ, ◌*◌, ◌<◌, ◌≤◌, length, take, Ok, Err}
 use Rattle.words.specs.Checks.{Met}
 use Rattle.words.specs.Bytes.{records_in, record_at}
+use Rattle.words.specs.declared.refusal.Refusal.TheVariants.{StillStuck}
 use Rattle.group.specs.declared.Element.{Element}
 use Rattle.sharing.specs.Setting.{ProperSetting}
 use Rattle.sharing.specs.declared.Setting.{Setting}
@@ -11,7 +12,6 @@ use Rattle.board.specs.Board.{form_checks, place_of, board_checks}
 use Rattle.verdicts.specs.Shares.{Judges}
 use Rattle.verdicts.specs.Verdict.{is_accepted, verdict_on, verdicts_on}
 use Rattle.verdicts.specs.Draw.{count_accepted, draw_in}
-use Rattle.words.specs.declared.refusal.Refusal.TheVariants.{StillStuck}
 
 -- ---- the board without its records of kind 5, which stand behind all others
 abbrev pub without_added : List ℕ → List ℕ

@@ -1,6 +1,7 @@
 -- What records of kind 5 may change in the text of `draw` for a board whose verdicts are reached: the last line alone.
 use Rattle.std.specs.Prelude.{◌≡◌, List, ◌++◌, ◌⊎◌, ℕ, Ok, Err}
 use Rattle.words.specs.Checks.{Met}
+use Rattle.words.specs.declared.refusal.Refusal.TheVariants.{StillStuck}
 use Rattle.group.specs.declared.Element.{Element}
 use Rattle.sharing.specs.Setting.{setting_in}
 use Rattle.verdicts.specs.Shares.{Judges}
@@ -10,7 +11,6 @@ use Rattle.rulings.specs.Files.{round_in}
 use Rattle.rulings.specs.Ruling.{ruling_checks}
 use Rattle.text.specs.Text.{round_line, dealer_lines, accepted_line, draw_line, draw_text}
 use Rattle.demand3.specs.KindFive.{without_added}
-use Rattle.words.specs.declared.refusal.Refusal.TheVariants.{StillStuck}
 
 -- the lines before the last: the round, the verdict on each dealer, the count of accepted dealings
 unfoldable pub lines_before : Judges → List ℕ → List ℕ → List ℕ → List ℕ

@@ -1,6 +1,6 @@
 -- What the board judge answers over a table and a round, and what `draw` prints then: where a board is refused before its verdicts, and
 -- where another board judge would give the same answers, as one that refuses nothing by 22 does where the keys are distinct.
-use Rattle.std.specs.Prelude.{◌≡◌, true, List, ◌++◌, ℕ, ◌<◌, Err}
+use Rattle.std.specs.Prelude.{◌≡◌, true, List, ◌++◌, ◌↔◌, ℕ, ◌<◌, Err}
 use Rattle.words.specs.Lists.{Distinct, all, map}
 use Rattle.words.specs.Checks.{Check, Outcome, outcome, Met, FirstUnmet, without}
 use Rattle.words.specs.Bytes.{records_in, record_at}
@@ -62,6 +62,10 @@ pub record BoardJudge : Type 0 where
 abbrev pub verdicts_by : BoardJudge → Setting → List ℕ → List Verdict
 verdicts_by B S b = map (B.verdict S b) (members S.n)
 
+-- what it refuses before the verdicts over a table and a round
+abbrev pub checks_over : BoardJudge → List ℕ → Round → List ℕ → List Check
+checks_over B T R b = round_checks T R ++ B.before (setting_in T R) b
+
 -- its draw, in a setting and over a table and a round
 abbrev pub draw_by : BoardJudge → Setting → List ℕ → Outcome Element
 draw_by B S b = outcome (B.before S b ++ B.end S b) (B.drawn S b)
@@ -96,6 +100,7 @@ pub record JudgedAs (B : BoardJudge) (S : Setting) (b : List ℕ) : Type 0 where
 -- over a table and a round: all that the board judge answers, and what `draw` prints where round.set holds the round
 pub record AnsweredAs (B : BoardJudge) (T : List ℕ) (R : Round) (b : List ℕ) : Type 0 where
   pub draw : draw_outcome judges T R b ≡ draw_over B T R b
+  pub refused : (o : Outcome Judgement) → JudgementOf judges T R b o → (k : Refusal) → (o ≡ Err k) ↔ FirstUnmet k (checks_over B T R b)
   pub verdicts : (o : Outcome Judgement) → JudgementOf judges T R b o → verdicts_of o ≡ places_over B T R b
   pub accepted : (o : Outcome Judgement) → JudgementOf judges T R b o → count_of o ≡ count_over B T R b
   pub text : (s : List ℕ) → round_in s ≡ R → draw_text judges T s b ≡ text_over B T s b

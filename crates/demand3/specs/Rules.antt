@@ -4,6 +4,7 @@ use Rattle.std.specs.Prelude.{◌≡◌, Bool, List, [], ◌∷◌, ℕ, eqb, Ok
 use Rattle.words.specs.Lists.{all}
 use Rattle.words.specs.Checks.{◌unless◌, outcome}
 use Rattle.words.specs.Bytes.{record_in}
+use Rattle.words.specs.declared.refusal.Refusal.TheVariants.{ProofFails}
 use Rattle.group.specs.declared.Element.{Element}
 use Rattle.sharing.specs.Setting.{ProperSetting, in_round, members}
 use Rattle.sharing.specs.Carried.{Carries}
@@ -14,7 +15,6 @@ use Rattle.dealing.specs.Dealing.{recomputed, equation_checks, judge_dealing_in}
 use Rattle.share.specs.Share.{share_recomputed, judge_share_in}
 use Rattle.share.specs.declared.ShareForm.{ShareForm}
 use Rattle.board.specs.Board.{board_checks, lines_checks}
-use Rattle.words.specs.declared.refusal.Refusal.TheVariants.{ProofFails}
 
 -- the same setting under a rule
 abbrev pub under_rule : Bool → Setting → Setting

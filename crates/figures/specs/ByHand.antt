@@ -3,6 +3,7 @@
 use Rattle.std.specs.Prelude.{◌≡◌, true, false, List, [], ◌∷◌, ℕ, Ok, Err}
 use Rattle.words.specs.Lists.{map}
 use Rattle.words.specs.Checks.{Met}
+use Rattle.words.specs.declared.refusal.Refusal.TheVariants.{OutOfRange, NoElement, NoExponent, NoMember, DegreeFails, ProofFails, WrongOpening}
 use Rattle.group.specs.Power.{pow}
 use Rattle.group.specs.Table.{groups_of, group_of, group_checks}
 use Rattle.group.specs.Element.{is_element}
@@ -21,7 +22,6 @@ use Rattle.records.specs.Keys.{is_key}
 use Rattle.equality.specs.Equality.{announced, equality_outcome}
 use Rattle.equality.specs.declared.Equality.{Equality}
 use Rattle.dealing.specs.Dealing.{written_v, written_Y, written_r}
-use Rattle.words.specs.declared.refusal.Refusal.TheVariants.{OutOfRange, NoElement, NoExponent, NoMember, DegreeFails, ProofFails, WrongOpening}
 
 -- group 1
 abbrev pub small_group : Group

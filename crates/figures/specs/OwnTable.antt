@@ -2,11 +2,11 @@
 use Rattle.std.specs.Prelude.{◌≡◌, List, ℕ, Ok, Err}
 use Rattle.words.specs.Checks.{refusal, Met}
 use Rattle.words.specs.Bytes.{record_bytes}
+use Rattle.words.specs.declared.refusal.Refusal.TheVariants.{UnknownGroup, NoElement}
 use Rattle.group.specs.Power.{pow}
 use Rattle.group.specs.Table.{group_layout, table_checks}
 use Rattle.group.specs.Answer.{power_outcome}
 use Rattle.figures.specs.ByHand.{element, exponent}
-use Rattle.words.specs.declared.refusal.Refusal.TheVariants.{UnknownGroup, NoElement}
 
 -- the table of one group
 abbrev pub table_of : ℕ → ℕ → ℕ → ℕ → List ℕ
