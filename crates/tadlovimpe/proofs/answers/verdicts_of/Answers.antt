@@ -2,45 +2,25 @@
 use mathlib.Core.Path.{◌≡◌, sym, ◌∙◌}
 use Prim.Native.Nat.{ℕ, ◌<◌}
 use native.Mathlib.Omega.{arith}
-use lib.ListN.{length-set}
+use borrow.Author.Rules.{rules}
+use lib.ListN.{length, get_or}
+use lib.Seq.{ext_get_or}
+use Rattle.words.specs.Lists.{map}
+use Rattle.words.proofs.Lists.{map-length, map_at}
 use Rattle.tadlovimpe.specs.Figures.{verdict_of}
-use Rattle.tadlovimpe.proofs.Mapped.{mapped_next, mapped-all}
+use Rattle.tadlovimpe.specs.declared.VerdictFigures.{VerdictFigures}
+use Rattle.verdicts.specs.declared.Verdict.TheVariants.{None}
+use Rattle.verdicts.specs.declared.Verdict.{Verdict}
 use Rattle.tadlovimpe.proofs.answers.verdicts_of.Goals as goal
-
-pub loop-i-init : goal.loop-i-init
-loop-i-init c = (omega arith, refl, refl)
-
-pub offset_bounds-places-i : goal.offset_bounds-places-i
-offset_bounds-places-i c = omega arith
-
-pub bounds-places-i : goal.bounds-places-i
-bounds-places-i c = omega arith
-
-pub verdict_of-requires : goal.verdict_of-requires
-verdict_of-requires c = tt
-
-pub offset_bounds-vs-i : goal.offset_bounds-vs-i
-offset_bounds-vs-i c = omega arith
-
-pub bounds-vs-i : goal.bounds-vs-i
-bounds-vs-i c = omega arith
-
-pub overflow_add-i : goal.overflow_add-i
-overflow_add-i c = omega arith
-
-pub loop-i-smaller : goal.loop-i-smaller
-loop-i-smaller c = omega arith
-
-pub loop-i-preserved : goal.loop-i-preserved
-loop-i-preserved c =
-    let s = c.args.places in (
-      omega arith,
-      simp length-set c.loop-i.invariant.1,
-      mapped_next verdict_of s _ c.loop-i.i c.loop-i.invariant.2 _ (omega (arith, c.loop-i.invariant.1)) (omega arith) c.verdict_of.ensures,
-    )
 
 pub returns : goal.returns
 returns c =
     let s = c.args.places in
-    let e : l.i ≡ 31 = omega arith in
-    mapped-all verdict_of s _ l.i l.invariant.2 (l.invariant.1 ∙ sym e) (omega arith)
+    let d : Verdict = None in
+    let e : VerdictFigures = record { kind = 0; value = 0 } in
+    let each = c.map.ensures.items in
+    let size : length s ≡ 31 = omega arith in
+    let long : length c.map.result ≡ length (map verdict_of s) = each.long ∙ sym (map-length verdict_of s ∙ size) in
+    let at : (i : ℕ) → i < 31 → get_or c.map.result i e ≡ verdict_of (get_or s i d) = λ i l. let h = each.at i d e l in search rules in
+    ext_get_or e c.map.result (map verdict_of s) long
+    (λ i l. at i (omega (arith, each.long)) ∙ sym (map_at verdict_of s i d e (omega (arith, each.long))))

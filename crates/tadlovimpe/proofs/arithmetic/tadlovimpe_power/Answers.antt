@@ -4,4 +4,4 @@ use Rattle.tadlovimpe.specs.Figures.{answer_of}
 use Rattle.tadlovimpe.proofs.arithmetic.tadlovimpe_power.Goals as goal
 
 pub returns : goal.returns
-returns c = c.answer_of.ensures ∙ ap answer_of c.power.ensures
+returns c = c.from.ensures ∙ ap answer_of c.power.ensures

@@ -32,7 +32,7 @@ module _ (T : List ℕ) (R : Round) (d : ℕ) (b : List ℕ) {a : Outcome Unit} 
 pub place_of-start-requires : goal.place_of-start-requires
 place_of-start-requires c =
     let a = c.args in
-    ascending a.table.now a.round a.dealer a.board.now c.lines_check.ensures c.in-Passed.is
+    ascending a.table.now a.round a.dealer a.board.now c.lines_check.ensures c.in-Ok.is
 
 pub overflow_mul-start : goal.overflow_mul-start
 overflow_mul-start c =
@@ -43,24 +43,25 @@ overflow_mul-start c =
 pub lines_of-part-requires : goal.lines_of-part-requires
 lines_of-part-requires c =
     let a = c.args in
-    ascending a.table.now a.round a.dealer a.board.now c.lines_check.ensures c.in-Passed.is
+    ascending a.table.now a.round a.dealer a.board.now c.lines_check.ensures c.in-Ok.is
 
-pub returns-in-Refused : goal.returns-in-Refused
-returns-in-Refused c =
+pub returns-in-Err : goal.returns-in-Err
+returns-in-Err c =
     let a = c.args in
     let start = lines_at a.table.now a.round a.dealer a.board.now in
     let bytes = length (lines_part a.table.now a.round a.dealer a.board.now) in
-    ap (λ (o : Outcome (Unit {0})). part_of o start bytes) (sym (c.in-Refused.is) ∙ c.lines_check.ensures)
+    (λ i. record { refusal = c.from.ensures i; start = 0; length = 0 })
+    ∙ ap (λ (o : Outcome (Unit {0})). part_of o start bytes) (sym c.in-Err.is ∙ c.lines_check.ensures)
 
-pub returns-in-Passed : goal.returns-in-Passed
+pub returns-in-Ok : goal.returns-in-Ok
 unfolding lines_part lines_at judged_else
-returns-in-Passed c =
+returns-in-Ok c =
     let a = c.args in
     let b = a.board.now in
     let cs = all_checks a.table.now a.round a.dealer b in
-    let t = c.in-Passed.is in
+    let t = c.in-Ok.is in
     let m = passed a.table.now a.round a.dealer b c.lines_check.ensures t in
-    let o = sym (ap t) ∙ c.lines_check.ensures in
+    let o = sym t ∙ c.lines_check.ensures in
     let start = ap (λ (k : ℕ). 32 * k) c.place_of-start.ensures ∙ sym (if-met (32 * lines_start b a.dealer) 0 cs m) in
     let bytes = ap length (c.lines_of-part.ensures.result_value ∙ sym (if-met (lines_of b a.dealer) [] cs m)) in
     λ i. part_of (o i) (start i) (bytes i)
