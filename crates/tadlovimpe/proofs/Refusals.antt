@@ -8,7 +8,7 @@ use Rattle.words.specs.Lists.{map}
 use Rattle.words.specs.Checks.{Check, Outcome, outcome, FirstUnmet}
 use Rattle.words.proofs.NumberLaws.{positive}
 use Rattle.group.specs.declared.Element.{Element}
-use Rattle.sharing.specs.Setting.{setting_in, round_checks}
+use Rattle.sharing.specs.Setting.{setting_in, round_checks, judged}
 use Rattle.sharing.specs.declared.Round.{Round}
 use Rattle.board.specs.Board.{lines_checks, lines_outcome, lines_part, lines_at}
 use Rattle.verdicts.specs.Draw.{draw_outcome}
