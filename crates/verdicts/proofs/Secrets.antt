@@ -40,10 +40,9 @@ use Rattle.verdicts.specs.Verdict.{commitments_of, encrypted_of, secret_from, fr
 use Rattle.verdicts.specs.Posted.{LinesOn, SharesOn}
 use Rattle.verdicts.specs.Gathered.{held_of, lowest_in}
 use Rattle.verdicts.specs.declared.GatheredShares.{GatheredShares}
-use Rattle.verdicts.specs.declared.Secret.TheVariants.{Opened, Recovered, Stuck}
+use Rattle.verdicts.specs.declared.Secret.TheVariants.{Opened}
 use Rattle.std.specs.Prelude.{Ok, Err, is_ok}
 use Rattle.words.specs.declared.refusal.Refusal.TheVariants.{NoExponent, WrongOpening, StillStuck}
-use Rattle.words.specs.declared.refusal.Refusal.{Refusal}
 
 few-taken : (t : ℕ) (xs : List ℕ) → length (take t xs) < t → length xs < t
 few-taken t xs h = omega (arith, length-take t xs)
