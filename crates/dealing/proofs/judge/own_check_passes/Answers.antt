@@ -1,24 +1,14 @@
 -- `own_check_passes` meets its contract: the first n commitments are the entries, and the polynomial stands in front of its array.
-use mathlib.Core.Path.{sym, ◌∙◌}
+use mathlib.Core.Path.{◌∙◌}
 use Prim.Native.Nat.{◌≤◌}
 use native.Mathlib.Omega.{arith}
 use lib.Dec.{eqb}
 use lib.ListN.{length}
-use lib.Seq.{length-take-le}
 use Rattle.words.proofs.Lists.{filled-front}
 use Rattle.sharing.specs.Answer.{degree_product}
 use Rattle.sharing.proofs.EachMember.{entries-front}
 use Rattle.challenge.proofs.Challenges.{check-polynomial}
 use Rattle.dealing.proofs.judge.own_check_passes.Goals as goal
-
-pub slice_bounds-degree_passes-end : goal.slice_bounds-degree_passes-end
-slice_bounds-degree_passes-end c = sym (length-take-le _ _ (omega arith))
-
-pub slice_bounds-degree_passes-end-2 : goal.slice_bounds-degree_passes-end-2
-slice_bounds-degree_passes-end-2 c = sym (length-take-le _ _ (omega (arith, c.requires.0.n-most)))
-
-pub degree_passes-requires : goal.degree_passes-requires
-degree_passes-requires c = (c.requires.0, length-take-le _ _ (omega arith))
 
 pub returns : goal.returns
 returns c =
