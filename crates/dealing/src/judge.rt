@@ -78,6 +78,7 @@ fn all_equal(c: Exponent, cs: [u32; 31], n: usize) -> bool
 }
 
 // The first number refused of 6 for a v or Y, and 7. Internal: callers ensure a proper setting.
+#[tactic(auto, using(sharing::proofs::EachMember::entries_all), unfolding(crate::specs::Dealing::range_checks))]
 fn check_ranges(
     s: Setting,
     vs: [u32; 31],

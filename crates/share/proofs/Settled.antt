@@ -1,4 +1,4 @@
--- What the stages of a share settle, and back; and the bytes that are written, by the figures as they are computed.
+-- What the stages of a share settle, and back.
 use mathlib.Core.Path.{◌≡◌, refl}
 use mathlib.Core.Bool.{Bool, true, false}
 use mathlib.Core.List.{List, ◌++◌}
@@ -10,23 +10,19 @@ use lib.Dec.{leb, eqb}
 use lib.ListN.{length}
 use Rattle.words.specs.Choice.{pick}
 use Rattle.words.specs.Checks.{Met, outcome}
-use Rattle.words.specs.Bytes.{record_bytes, record_in}
+use Rattle.words.specs.Bytes.{record_in}
 use Rattle.words.specs.declared.Record.{Record}
 use Rattle.words.proofs.Tests.{and-true, true-and, equal-true, true-equal}
 use Rattle.words.proofs.Stages.{both-met, met-both, stage-met}
-use Rattle.field.specs.Residue.{inv}
-use Rattle.group.specs.Power.{pow}
 use Rattle.group.specs.Element.{is_element, is_exponent}
 use Rattle.group.proofs.Elements.{exponent-true, true-exponent}
 use Rattle.sharing.specs.Setting.{is_member}
 use Rattle.sharing.specs.declared.Setting.{Setting}
 use Rattle.sharing.proofs.EachMember.{member-exactly}
-use Rattle.records.specs.Layout.{added_kind, share_layout, is_share_record, dealer_of, member_of, round_of, share_c, share_r}
+use Rattle.records.specs.Layout.{added_kind, is_share_record, dealer_of, member_of, round_of, share_c, share_r}
 use Rattle.records.specs.Keys.{is_key, is_secret_key}
-use Rattle.challenge.specs.Message.{challenge_of, share_message}
-use Rattle.equality.specs.Equality.{response}
 use Rattle.share.specs.declared.ShareForm.{ShareForm}
-use Rattle.share.specs.Share.{is_dealer, key_of, share_of, written_share_c, written_share_record, written_share, members_checks, write_share_checks, share_input_checks, share_form_checks, share_admission_checks, share_figure_checks}
+use Rattle.share.specs.Share.{is_dealer, members_checks, write_share_checks, share_input_checks, share_form_checks, share_admission_checks, share_figure_checks}
 use Rattle.std.specs.Prelude.{Ok}
 use Rattle.share.specs.Claims.{NumbersByForm, AdmittedShare, ShareHolds, ShareUpToRound}
 
@@ -144,12 +140,3 @@ module _ (S : Setting) (F : ShareForm) (i Y x w room : ℕ) where
         x-low = ltb-true x S.group.q secret.1;
         w-low = exponent-true S.group w low.1;
       }
-
--- ---- what is written
-pub share-bytes : (S : Setting) (F : ShareForm) (i Y x w : ℕ) {k Z y a1 a2 c r : ℕ}
-    → k ≡ inv S.group.q x → Z ≡ pow S.group.p Y k → y ≡ pow S.group.p S.group.h.0 x
-    → a1 ≡ pow S.group.p S.group.h.0 w → a2 ≡ pow S.group.p Z w
-    → c ≡ challenge_of S (share_message F.tag S F.dealer i y Y Z a1 a2) → r ≡ response S.group w c x
-    → record_bytes (share_layout F.kind F.dealer i Z c r S.round) ≡ written_share S F i Y x w
-unfolding written_share written_share_record written_share_c share_of key_of
-share-bytes S F i Y x w k-is Z-is y-is a1-is a2-is c-is r-is = cc

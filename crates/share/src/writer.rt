@@ -36,6 +36,7 @@ fn check_writing(s: Setting, e: EncryptedShare, x: Exponent, w: Exponent, room: 
 
 // Writes the share that the secret key x gives of the encrypted share, with the nonce w.
 // Internal: callers ensure that the setting is proper, a dealer and a member at most n, a secret key, a nonce below q, and 32 bytes.
+#[tactic(auto, unfolding(crate::specs::Share::written_share, crate::specs::Share::written_share_record, crate::specs::Share::written_share_c, crate::specs::Share::share_of, crate::specs::Share::key_of))]
 fn put_share(s: Setting, e: EncryptedShare, x: Exponent, w: Exponent, out: &mut [u8])
     requires { (ProperSetting s) × (e.form.dealer ≤ s.n) × (e.member ≤ s.n)
         × (0 < x.0) × (x.0 < s.group.q) × (w.0 < s.group.q) × (length out.old ≡ 32) }

@@ -120,8 +120,8 @@ entries-front l n h =
     get_or-take n l k 0 (omega arith)
     ∙ sym (map_at (entry l) (members n) k 0 0 (omega (arith, up-length 1 n)) ∙ ap (λ (x : ℕ). get_or l x 0) number))
 
-pub entries-all : (f : ℕ → Bool) (l : List ℕ) (n : ℕ) → n ≤ length l → all f (take n l) ≡ all (λ i. f (entry l i)) (members n)
-entries-all f l n h = ap (all f) (entries-front l n h) ∙ all_map f (entry l) (members n)
+pub entries_all : (f : ℕ → Bool) (l : List ℕ) (n : ℕ) → n ≤ length l → all f (take n l) ≡ all (λ i. f (entry l i)) (members n)
+entries_all f l n h = ap (all f) (entries-front l n h) ∙ all_map f (entry l) (members n)
 
 -- tests that agree on the members
 pub tests_same : (f g : ℕ → Bool) (n : ℕ) → ((i : ℕ) → 1 ≤ i → i ≤ n → f i ≡ g i) → all f (members n) ≡ all g (members n)
