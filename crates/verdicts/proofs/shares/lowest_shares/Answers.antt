@@ -2,7 +2,6 @@
 use mathlib.Core.Path.{◌≡◌, ap, ◌∙◌}
 use Prim.Native.Nat.{ℕ, ◌+◌, ◌-◌}
 use native.Mathlib.Omega.{arith}
-use borrow.Author.Tests.{ltb-true, ltb-false}
 use Rattle.board.specs.Board.{place_of}
 use Rattle.board.proofs.Places.{run-rises}
 use Rattle.verdicts.specs.Shares.{judges}
@@ -33,7 +32,7 @@ loop-i-init c =
 pub with_share-found-requires : goal.with_share-found-requires
 with_share-found-requires c =
     let e = c.place_of-end.ensures in
-    (run-share c.requires c.loop-i.i c.loop-i.invariant.0 (omega (arith, e, c.loop-i-test.true)), c.requires, omega (arith, ltb-true c.loop-i.found.count c.args.s.t c.if-found-room.true-raw, c.loop-i.invariant.2))
+    (run-share c.requires c.loop-i.i c.loop-i.invariant.0 (omega (arith, e, c.loop-i-test.true)), c.requires, omega (arith, c.loop-i.invariant.2))
 
 pub loop-i-preserved : goal.loop-i-preserved
 loop-i-preserved c =
@@ -47,7 +46,7 @@ loop-i-preserved c =
       omega (arith, e, c.loop-i-test.true),
       c.loop-i.invariant.2,
       c.with_share-found.ensures ∙ ap (λ (x : ℕ). with_share judges a.s a.b.now a.form a.encrypted.now x c.loop-i.found) here
-          ∙ held_next judges a.s a.b.now a.form a.encrypted.now s (i - s) c.loop-i.invariant.3 c.loop-i.invariant.2 (ltb-true _ _ c.if-found-room.true-raw)
+          ∙ held_next judges a.s a.b.now a.form a.encrypted.now s (i - s) c.loop-i.invariant.3 c.loop-i.invariant.2 (omega arith)
           ∙ ap (held_at judges a.s a.b.now a.form a.encrypted.now s) next,
     )
 
@@ -56,7 +55,7 @@ returns-else-found-room c =
     let b = c.args.b.now in
     let F = c.args.form in
     held-full judges c.args.s b F c.args.encrypted.now (place_of b F.kind F.dealer 0) (c.loop-i.i - place_of b F.kind F.dealer 0) c.loop-i.invariant.3 (place_of b F.kind F.dealer 32 - place_of b F.kind F.dealer 0) (run-shares c.requires judges) (place_of b F.kind F.dealer 32 - c.loop-i.i)
-    (omega (arith, c.loop-i.invariant.0, c.loop-i.invariant.1)) (ltb-false _ _ c.if-found-room.false-raw)
+    (omega (arith, c.loop-i.invariant.0, c.loop-i.invariant.1)) (omega arith)
 
 pub returns-after-loop-i : goal.returns-after-loop-i
 returns-after-loop-i c =
