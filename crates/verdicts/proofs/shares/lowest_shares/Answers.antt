@@ -7,14 +7,14 @@ use Rattle.board.proofs.Places.{run-rises}
 use Rattle.verdicts.specs.Shares.{judges}
 use Rattle.verdicts.specs.Gathered.{with_share}
 use Rattle.verdicts.proofs.Gathering.{held_at, held_none, held_next, held-full, held_all}
-use Rattle.verdicts.proofs.ShareAnswers.{shares-sorted, run-share, run-shares}
+use Rattle.verdicts.proofs.ShareAnswers.{shares_sorted, run-share, run-shares}
 use Rattle.verdicts.proofs.shares.lowest_shares.Goals as goal
 
 pub place_of-end-requires : goal.place_of-end-requires
-place_of-end-requires c = shares-sorted c.requires
+place_of-end-requires c = shares_sorted c.requires
 
 pub place_of-i-requires : goal.place_of-i-requires
-place_of-i-requires c = shares-sorted c.requires
+place_of-i-requires c = shares_sorted c.requires
 
 pub loop-i-init : goal.loop-i-init
 loop-i-init c =
@@ -24,7 +24,7 @@ loop-i-init c =
     let s = c.place_of-i.ensures in
     let z : 0 ≡ c.place_of-i.result - place_of b a.form.kind a.form.dealer 0 = omega (arith, s) in (
       omega (arith, s),
-      omega (arith, s, run-rises (shares-sorted c.requires) a.form.kind a.form.dealer),
+      omega (arith, s, run-rises (shares_sorted c.requires) a.form.kind a.form.dealer),
       omega (arith, P.t-most, P.n-most),
       held_none judges a.s b a.form a.encrypted.now (place_of b a.form.kind a.form.dealer 0) ∙ ap (held_at judges a.s b a.form a.encrypted.now (place_of b a.form.kind a.form.dealer 0)) z,
     )
