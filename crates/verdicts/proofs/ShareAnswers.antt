@@ -11,7 +11,7 @@ use lib.ListN.{take, drop, length-drop}
 use lib.Seq.{length-take-le}
 use lib.Dec.{eqb}
 use Rattle.words.specs.Lists.{up_from, entry}
-use Rattle.words.specs.Checks.{Met, Outcome}
+use Rattle.words.specs.Checks.{Met}
 use Rattle.words.specs.Bytes.{record_in, records_in, record_at}
 use Rattle.words.specs.declared.Record.{Record}
 use Rattle.words.proofs.Tests.{all_true, and-true, pick_true, pick-false}
@@ -73,32 +73,31 @@ none-of-kind J S b F Ys n =
     (λ i h e. absurd (n i h (share-address J S b F Ys i e).0)))
 
 -- ---- the shares found so far, by the answer on the next record
-module _ (S : Setting) (b : List ℕ) (F : ShareForm) (Ys : List ℕ) (i : ℕ) (H : ShareOf b F i) (A : GatheredShares) {a : Outcome Element} (e : a ≡ share_answer judges S b F Ys i) where
-  pub with_none : {k : Refusal} → a ≡ Err k → A ≡ with_share judges S b F Ys i A
+module _ (S : Setting) (b : List ℕ) (F : ShareForm) (Ys : List ℕ) (i : ℕ) (H : ShareOf b F i) (A : GatheredShares) where
+  pub with_none : {k : Refusal} → Err k ≡ share_answer judges S b F Ys i → A ≡ with_share judges S b F Ys i A
   unfolding with_share
-  with_none f =
-      sym (pick-false (is_share_in judges S b F Ys i) _ A (share-told judges S b F Ys i H ∙ ap is_ok (sym e ∙ f)))
+  with_none e = sym (pick-false (is_share_in judges S b F Ys i) _ A (share-told judges S b F Ys i H ∙ ap is_ok (sym e)))
 
-  pub with-one : {Z : Element} (m : ℕ) → a ≡ Value Z → m ≡ member_of (record_at b i)
-      → pushed m Z.0 A ≡ with_share judges S b F Ys i A
+  pub with_one : {Z : Element} → Ok Z ≡ share_answer judges S b F Ys i
+      → pushed (member_of (record_at b i)) Z.0 A ≡ with_share judges S b F Ys i A
   unfolding with_share
-  with-one {Z} m f h =
-      let v = share-value S b F Ys i Z (sym e ∙ f) in
-      (λ j. pushed (h j) (v j) A)
-      ∙ sym (pick_true (is_share_in judges S b F Ys i) _ A (share-told judges S b F Ys i H ∙ ap is_value (sym e ∙ f)))
+  with_one {Z} e =
+      let v = share-value S b F Ys i Z (sym e) in
+      (λ j. pushed (member_of (record_at b i)) (v j) A)
+      ∙ sym (pick_true (is_share_in judges S b F Ys i) _ A (share-told judges S b F Ys i H ∙ ap is_ok (sym e)))
 
 -- ---- on a board with an encrypted share for each member
 module _ {S : Setting} {b : List ℕ} {F : ShareForm} {Ys : List ℕ} (L : SharesOn S b F Ys) where
   form : Met (form_checks S b)
   form = (reached S b L.reached).form
 
-  pub shares-sorted : Sorted b
-  shares-sorted = sorted S b form
+  pub shares_sorted : Sorted b
+  shares_sorted = sorted S b form
 
   -- the run of the form's shares
   pub run-share : (i : ℕ) → place_of b F.kind F.dealer 0 ≤ i → i < place_of b F.kind F.dealer 32 → ShareOf b F i
   run-share i h l =
-      let s = in-run shares-sorted F.kind F.dealer i h l in
+      let s = in-run shares_sorted F.kind F.dealer i h l in
       record { inside = omega (arith, place-within b F.kind F.dealer 32); kind = s.0; dealer = s.1 }
 
   pub run-shares : (J : Judges) {s e : ℕ} → s ≡ place_of b F.kind F.dealer 0 → e ≡ place_of b F.kind F.dealer 32
@@ -106,10 +105,10 @@ module _ {S : Setting} {b : List ℕ} {F : ShareForm} {Ys : List ℕ} (L : Share
   unfolding shares_in
   run-shares J start end =
       (λ j. filter (is_share_in J S b F Ys) (up_from (start j) (end j - start j)))
-      ∙ filter-run (is_share_in J S b F Ys) (place_of b F.kind F.dealer 0) (place_of b F.kind F.dealer 32) (records_in b) (run-rises shares-sorted F.kind F.dealer) (place-within b F.kind F.dealer 32)
+      ∙ filter-run (is_share_in J S b F Ys) (place_of b F.kind F.dealer 0) (place_of b F.kind F.dealer 32) (records_in b) (run-rises shares_sorted F.kind F.dealer) (place-within b F.kind F.dealer 32)
       (λ i h e.
       let s = share-address J S b F Ys i e in
-      to-run shares-sorted F.kind F.dealer i h s.0 s.1 (omega (arith, (shapes S b form i h).member, L.proper.n-most)))
+      to-run shares_sorted F.kind F.dealer i h s.0 s.1 (omega (arith, (shapes S b form i h).member, L.proper.n-most)))
 
   -- ---- one share: its member's key is there, and all but its figures is settled
   module _ {i : ℕ} (H : ShareOf b F i) where
@@ -141,12 +140,12 @@ module _ {S : Setting} {b : List ℕ} {F : ShareForm} {Ys : List ℕ} (L : Share
           round = of-round S b form i H.inside;
         }
 
-    pub share-dealer : F.dealer ≤ S.n
-    share-dealer = dealer-most S.n F L.dealer
+    pub share_dealer : F.dealer ≤ S.n
+    share_dealer = dealer-most S.n F L.dealer
 
     module _ {share : Record} (e : share ≡ record_at b i) where
-      pub share-member : (1 ≤ member_of share) × (member_of share ≤ S.n) × (key_place b (member_of share) < records_in b)
-      share-member =
+      pub share_member : (1 ≤ member_of share) × (member_of share ≤ S.n) × (key_place b (member_of share) < records_in b)
+      share_member =
           let a = share-admitted.member in
           let m = ap (λ (r : Record). member_of r) e in
           let h : 1 ≤ member_of share = omega (arith, a.0, m) in

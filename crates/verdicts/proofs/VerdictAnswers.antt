@@ -80,16 +80,16 @@ module _ (S : Setting) (b : List ℕ) (d : ℕ) (P : ProperSetting S) (m : Met (
       some-lines : eqb (line_count b d) 0 ≡ false
       some-lines = ne_eqb _ 0 (λ z. s (sym counted ∙ z))
 
-      pub not-all-lines : (k ≡ S.n → ⊥) → Refused Incomplete ≡ verdict_on judges S b d
+      pub not_all_lines : (k ≡ S.n → ⊥) → Refused Incomplete ≡ verdict_on judges S b d
       unfolding verdict_on
-      not-all-lines n =
+      not_all_lines n =
           sym
           (pick-false (eqb (line_count b d) 0) _ _ some-lines
           ∙ pick-false (eqb (line_count b d) S.n) _ _ (ne_eqb _ S.n (λ z. n (sym counted ∙ z))))
 
       module _ (n : k ≡ S.n) {ys : List ℕ} (y : ys ≡ keys_in S.n b) where
-        pub lines-formed : FormedDealing S d ys lines
-        lines-formed =
+        pub lines_formed : FormedDealing S d ys lines
+        lines_formed =
             subst (λ (l : List ℕ). FormedDealing S d ys l) (sym e)
             (subst (λ (l : List ℕ). FormedDealing S d l (lines_of b d)) (sym y) (formed (counted ∙ n)))
 
@@ -103,10 +103,10 @@ module _ (S : Setting) (b : List ℕ) (d : ℕ) (P : ProperSetting S) (m : Met (
 
         -- ---- by the judge's answer on the figures of his lines
         decided : outcome (line_figure_checks S d ys lines) tt ≡ dealing_answer judges S b d
-        decided = figures-decide S d ys lines lines-formed ∙ (λ i. judge_dealing_in S d (y i) (e i))
+        decided = figures-decide S d ys lines lines_formed ∙ (λ i. judge_dealing_in S d (y i) (e i))
 
-        pub judge-refuses : {i : Refusal} → Err i ≡ outcome (line_figure_checks S d ys lines) (columns_of S.n lines) → Refused i ≡ verdict_on judges S b d
-        judge-refuses {i} j =
+        pub judge_refuses : {i : Refusal} → Err i ≡ outcome (line_figure_checks S d ys lines) (columns_of S.n lines) → Refused i ≡ verdict_on judges S b d
+        judge_refuses {i} j =
             let u = (refused-exactly Columns (line_figure_checks S d ys lines) (columns_of S.n lines) i).0 (sym j) in
             told (sym ((refused-exactly Unit (line_figure_checks S d ys lines) tt i).1 u) ∙ decided)
 
@@ -120,8 +120,8 @@ module _ (S : Setting) (b : List ℕ) (d : ℕ) (P : ProperSetting S) (m : Met (
           pub all_lines : LinesOn S b d
           all_lines = record { proper = P; reached = m; accepted = sym passes }
 
-          pub figures-are : figures ≡ columns_of S.n (lines_of b d)
-          figures-are = sym given.1 ∙ ap (columns_of S.n) e
+          pub figures_are : figures ≡ columns_of S.n (lines_of b d)
+          figures_are = sym given.1 ∙ ap (columns_of S.n) e
 
-          pub dealing-accepted : {s : Secret} → s ≡ secret_by judges S b d → Accepted s ≡ verdict_on judges S b d
-          dealing-accepted h = ap Accepted h ∙ told passes
+          pub dealing_accepted : {s : Secret} → s ≡ secret_by judges S b d → Accepted s ≡ verdict_on judges S b d
+          dealing_accepted h = ap Accepted h ∙ told passes

@@ -59,6 +59,7 @@ fn times_secret(gr: Group, v: Verdict, x: Element) -> Element
 // The draw by the verdicts, the count of accepted dealings, whether one is stuck, and the product of the secrets: where one is
 // stuck, the added shares decide.
 // Internal: callers ensure that the setting is proper, that verdicts are reached, and that these are the dealers' verdicts.
+#[tactic(auto, unfolding(crate::specs::Shares::from_lowest))]
 fn draw_answer(
     s: Setting,
     b: &[u8],

@@ -26,6 +26,16 @@ impl GatheredShares {
 // What the judge of shares answers for the record i with the key of its member and his encrypted share: its figures decide, for the
 // board settles the rest.
 // Internal: callers ensure that verdicts are reached, that it is a share in this form, and that each member has an encrypted share.
+#[tactic(
+    auto,
+    using(
+        crate::proofs::ShareAnswers::shares_sorted,
+        crate::proofs::ShareAnswers::share_member,
+        crate::proofs::ShareAnswers::share_dealer,
+        crate::proofs::ShareAnswers::answered
+    ),
+    unfolding(words::specs::Lists::entry)
+)]
 fn accepted_share(
     s: Setting,
     form: ShareForm,
@@ -48,6 +58,7 @@ fn accepted_share(
 
 // Adds the share in the record i to those found before it, where it is an accepted one.
 // Internal: callers ensure what accepted_share asks, and that there is room.
+#[tactic(auto, using(crate::proofs::ShareAnswers::with_none, crate::proofs::ShareAnswers::with_one))]
 fn with_share(
     s: Setting,
     form: ShareForm,
@@ -90,7 +101,18 @@ fn lowest_shares(s: Setting, form: ShareForm, b: &[u8], encrypted: &[u32]) -> Ga
 
 // What the t lowest members with accepted shares recover, refused by 13 where there are fewer.
 // Internal: callers ensure that verdicts are reached, and that each member has an encrypted share.
-#[tactic(auto, using(crate::proofs::Secrets::few_refused))]
+#[tactic(
+    auto,
+    using(
+        crate::proofs::Secrets::few_refused,
+        crate::proofs::Secrets::members_count,
+        crate::proofs::Secrets::shares_count,
+        crate::proofs::Secrets::members_room,
+        crate::proofs::Secrets::shares_room,
+        crate::proofs::Secrets::found_low,
+        crate::proofs::Secrets::found_enough
+    )
+)]
 pub(crate) fn from_lowest(s: Setting, form: ShareForm, b: &[u8], encrypted: &[u32]) -> Result<Element, Refusal>
     requires { SharesOn s b.now form encrypted.now }
     ensures { result ≡ from_lowest s b.now (shares_in judges s b.now form encrypted.now) }

@@ -6,14 +6,14 @@ use Rattle.board.proofs.Places.{run-rises}
 use Rattle.verdicts.specs.Shares.{judges}
 use Rattle.verdicts.specs.Gathered.{with_share}
 use Rattle.verdicts.proofs.Gathering.{held_at, held_none, held-most, held_next, held-full, held_all}
-use Rattle.verdicts.proofs.ShareAnswers.{shares-sorted, run-share, run-shares}
+use Rattle.verdicts.proofs.ShareAnswers.{shares_sorted, run-share, run-shares}
 use Rattle.verdicts.proofs.shares.lowest_shares.Goals as goal
 
 pub place_of-end-requires : goal.place_of-end-requires
-place_of-end-requires c = shares-sorted c.requires
+place_of-end-requires c = shares_sorted c.requires
 
 pub place_of-start-requires : goal.place_of-start-requires
-place_of-start-requires c = shares-sorted c.requires
+place_of-start-requires c = shares_sorted c.requires
 
 pub loop-i-init : goal.loop-i-init
 loop-i-init c =
@@ -65,6 +65,6 @@ returns-after-loop-i c =
     let s = c.place_of-start.result in
     let e = c.place_of-end.result in
     let end : i ≡ e =
-    omega (arith, run-rises (shares-sorted c.requires) a.form.kind a.form.dealer, c.place_of-start.ensures, c.place_of-end.ensures) in
+    omega (arith, run-rises (shares_sorted c.requires) a.form.kind a.form.dealer, c.place_of-start.ensures, c.place_of-end.ensures) in
     held_all judges a.s a.b.now a.form a.encrypted.now s (i - s) c.loop-i.invariant (e - s)
     (run-shares c.requires judges c.place_of-start.ensures c.place_of-end.ensures) (ap (λ (x : ℕ). x - s) end)
