@@ -83,12 +83,6 @@ module _ (J : Judges) {S : Setting} {b : List ℕ} {F : ShareForm} {Ys : List �
     pub count_most : A.count ≤ 31
     count_most = omega (arith, count-is, length-take S.t shares, L.proper.t-most, L.proper.n-most)
 
-    pub members_room : A.count ≤ length A.members
-    members_room = full-taken _ _ members_count
-
-    pub shares_room : A.count ≤ length A.shares
-    shares_room = full-taken _ _ shares_count
-
     pub found_low : Below S.group.q (take A.count A.members)
     found_low = subst (Below S.group.q) (sym members-are) members-low
 

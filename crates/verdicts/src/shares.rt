@@ -107,8 +107,7 @@ fn lowest_shares(s: Setting, form: ShareForm, b: &[u8], encrypted: &[u32]) -> Ga
         crate::proofs::Secrets::few_refused,
         crate::proofs::Secrets::members_count,
         crate::proofs::Secrets::shares_count,
-        crate::proofs::Secrets::members_room,
-        crate::proofs::Secrets::shares_room,
+        crate::proofs::Secrets::count_most,
         crate::proofs::Secrets::found_low,
         crate::proofs::Secrets::found_enough
     )
