@@ -1,4 +1,4 @@
--- Boards filed before records had a round's number: the checks of the scope paper differ from those of round 0 in the number of a test that
+-- Boards filed before records had a round's number: the checks of the scope paper differ from those of round 0 in the refusal of a test that
 -- holds where word 7 is 0, and the messages and their exponents are the same, so both answer the same, and so do the verdicts. Without
 -- records of kind 5 the scope paper's table is the same, and a stuck dealing is the end, so the draw is the same too. With equal keys 22
 -- stands behind all that the scope paper tested before the verdicts.

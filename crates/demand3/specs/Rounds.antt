@@ -90,7 +90,7 @@ abbrev pub text_over : BoardJudge → List ℕ → List ℕ → List ℕ → Lis
 text_over B T s b = text_of (outcome (file_checks T s) (text_of (judged T (round_in s) (λ S. B.before S b) (λ S. report_by B S b))))
 
 -- ---- the board is judged as it would be by B
--- in a setting: what is refused before the verdicts; each verdict, where verdicts are reached; the draw value or the number by which there
+-- in a setting: what is refused before the verdicts; each verdict, where verdicts are reached; the draw value or the refusal by which there
 -- is none
 pub record JudgedAs (B : BoardJudge) (S : Setting) (b : List ℕ) : Type 0 where
   pub before : outcome (board_checks S b) tt ≡ outcome (B.before S b) (tt {0})
