@@ -7,7 +7,8 @@ use mathlib.Core.Logic.{inr}
 use Prim.Native.Nat.{ℕ}
 use native.Mathlib.Omega.{arith}
 use borrow.Author.Tests.{ltb-true}
-use Rattle.std.proofs.Common.{Option, Some, None}
+use lib.ListN.{take}
+use Rattle.std.proofs.Common.{Some, None}
 use Rattle.std.proofs.lemmas.Option.{none-some, same_Some}
 use Rattle.words.specs.Choice.{pick}
 use Rattle.words.specs.Lists.{all, filled}
@@ -15,7 +16,7 @@ use Rattle.words.specs.Bytes.{records_in, record_at}
 use Rattle.words.proofs.Tests.{all_map, pick_true}
 use Rattle.words.proofs.Stages.{rest-first}
 use Rattle.sharing.specs.Setting.{members}
-use Rattle.sharing.proofs.EachMember.{members-exactly, members-own}
+use Rattle.sharing.proofs.EachMember.{members-exactly, members-own, members-front}
 use Rattle.records.specs.Layout.{key_kind}
 use Rattle.records.specs.Keys.{is_key, key_checks}
 use Rattle.records.proofs.ProperKeys.{keys-proper, equal-keys}
@@ -35,18 +36,20 @@ missed : {A : Type 0} (t : Bool) (x : A) → pick t (Some x) None ≡ None → t
 missed true x e = absurd (none-some x (sym e))
 missed false x e = refl
 
-module _ (n : ℕ) (b : List ℕ) {o : Option (List ℕ)} (e : o ≡ found_keys n b) where
-  pub keys-found : all (has_key b) (members n) ≡ true → o ≡ Some (filled 31 (keys_in n b))
+module _ (n : ℕ) (b : List ℕ) where
+  pub keys_found : all (has_key b) (members n) ≡ true → found_keys n b ≡ Some (filled 31 (keys_in n b))
   unfolding found_keys
-  keys-found h = e ∙ pick_true (all (has_key b) (members n)) _ _ h
+  keys_found h = pick_true (all (has_key b) (members n)) _ _ h
 
-  pub some-found : {ys : List ℕ} → o ≡ Some ys → (all (has_key b) (members n) ≡ true) × (ys ≡ filled 31 (keys_in n b))
+  pub some_found : {ys : List ℕ} → Some ys ≡ found_keys n b → (all (has_key b) (members n) ≡ true) × (take n ys ≡ keys_in n b)
   unfolding found_keys
-  some-found {ys} f = kept (all (has_key b) (members n)) (filled 31 (keys_in n b)) ys (sym e ∙ f)
+  some_found {ys} e =
+      let k = kept (all (has_key b) (members n)) (filled 31 (keys_in n b)) ys (sym e) in
+      (k.0, members-front (key_in b) n k.1)
 
-  pub none-found : o ≡ None → all (has_key b) (members n) ≡ false
+  pub none_found : None ≡ found_keys n b → all (has_key b) (members n) ≡ false
   unfolding found_keys
-  none-found f = missed (all (has_key b) (members n)) (filled 31 (keys_in n b)) (sym e ∙ f)
+  none_found e = missed (all (has_key b) (members n)) (filled 31 (keys_in n b)) (sym e)
 
 pub keys-exact : KeysExact
 unfolding key_checks

@@ -32,6 +32,7 @@ fn found_keys(b: &[u8], n: u32) -> Option<[u32; 31]>
 
 // The members' keys, and 0 behind them.
 // Internal: callers ensure that there are at most 31 members, that each has a key record, and that the records ascend.
+#[tactic(auto, using(crate::proofs::KeyRecords::keys_found))]
 pub fn board_keys(b: &[u8], n: u32) -> [u32; 31]
     requires { (n ≤ 31) × (all (has_key b.now) (members n) ≡ true) × (Sorted b.now) }
     ensures { result ≡ filled 31 (keys_in n b.now) }
@@ -41,6 +42,7 @@ pub fn board_keys(b: &[u8], n: u32) -> [u32; 31]
 
 // What the keys are refused by: 12 a key missing; 6 a bad key; 22 two equal keys.
 // Internal: callers ensure that the setting is proper and that the records ascend.
+#[tactic(auto, using(crate::proofs::KeyRecords::some_found, crate::proofs::KeyRecords::none_found), unfolding(crate::specs::Board::board_key_checks))]
 fn check_board_keys(s: Setting, b: &[u8]) -> Result<(), Refusal>
     requires { (ProperSetting s) × (Sorted b.now) }
     ensures { result ≡ outcome (board_key_checks s b.now) tt }
