@@ -26,13 +26,10 @@ pub fn key_record(i: u32, y: Element, round: u32) -> Record
 {
     Record {
         w0: KEY,
-        w1: 0,
         w2: i,
         w3: y.0,
-        w4: 0,
-        w5: 0,
-        w6: 0,
         w7: round,
+        ..Record::ZERO
     }
 }
 
@@ -67,12 +64,9 @@ pub fn opening_record(d: u32, u: Exponent, round: u32) -> Record
     Record {
         w0: OPENING,
         w1: d,
-        w2: 0,
         w3: u.0,
-        w4: 0,
-        w5: 0,
-        w6: 0,
         w7: round,
+        ..Record::ZERO
     }
 }
 
@@ -96,8 +90,8 @@ pub fn share_record(
         w3: decrypted.0,
         w4: c.0,
         w5: r.0,
-        w6: 0,
         w7: round,
+        ..Record::ZERO
     }
 }
 
@@ -112,8 +106,7 @@ pub fn set_record(number: u32, n: u32, t: u32, round: u32, first: u32) -> Record
         w3: t,
         w4: round,
         w5: first,
-        w6: 0,
-        w7: 0,
+        ..Record::ZERO
     }
 }
 
