@@ -18,7 +18,7 @@ use Rattle.verdicts.specs.Shares.{Judges}
 use Rattle.verdicts.specs.Draw.{draw_checks, draw_value, reached_draw, draw_outcome, JudgementIn}
 use Rattle.rulings.specs.Files.{set_checks, round_in, file_checks, setting_checks}
 use Rattle.rulings.specs.Ruling.{RulingOf, RulingMet, ruling_checks, judgement_checks}
-use Rattle.rulings.specs.Claims.{RulingReached, RulingSettled, RulingRefused, RulingJudged, RulingByGroups, JudgementExactly}
+use Rattle.rulings.specs.Claims.{RulingReached, RulingSettled, RulingRefused, RulingEmpty, RulingJudged, RulingByGroups, JudgementExactly}
 use Rattle.rulings.proofs.Settings.{checked-round, checked-proper}
 
 pub ruling-reached : RulingReached
@@ -45,6 +45,10 @@ ruling-refused J T s b (Err i) I k = (
     let e : i ≡ k = cc in ap Err e,
   λ e. let f : i ≡ k = cc in subst (λ j. FirstUnmet j (ruling_checks T s b)) f I,
 )
+
+pub ruling-empty : RulingEmpty
+ruling-empty J T s b (Ok A) I k e = absurd (cc)
+ruling-empty J T s b (Err i) I k e = let f : i ≡ k = cc in record { verdicts = refl; accepted = refl; draw = ap Err f }
 
 module _ (T s b : List ℕ) where
   abbrev S : Setting

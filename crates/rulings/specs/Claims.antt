@@ -7,7 +7,7 @@ use Rattle.sharing.specs.Setting.{ProperSetting, setting_in}
 use Rattle.sharing.specs.declared.Round.{Round}
 use Rattle.board.specs.Board.{board_checks}
 use Rattle.verdicts.specs.Shares.{Judges}
-use Rattle.verdicts.specs.Draw.{JudgementIn, draw_outcome}
+use Rattle.verdicts.specs.Draw.{JudgementIn, draw_outcome, no_verdicts}
 use Rattle.verdicts.specs.declared.Judgement.{Judgement}
 use Rattle.rulings.specs.Files.{round_in, file_checks}
 use Rattle.rulings.specs.Ruling.{RulingOf, ruling_checks, JudgementOf, verdicts_of, count_of, draw_of, places_on, count_on}
@@ -31,7 +31,7 @@ RulingSettled =
     (J : Judges) (T s b : List ℕ) (o : Outcome Ruling) → RulingOf J T s b o
     → (A : Ruling) → o ≡ Ok A → Settled J T s b A
 
--- it is refused by k, and then there is nothing else, exactly where the first of these checks that is not met refuses by k
+-- it is refused by k exactly where the first of these checks that is not met refuses by k
 abbrev pub RulingRefused : Type 0
 RulingRefused =
     (J : Judges) (T s b : List ℕ) (o : Outcome Ruling) → RulingOf J T s b o
@@ -41,6 +41,17 @@ RulingRefused =
 abbrev pub judgement_in : Outcome Ruling → Outcome Judgement
 judgement_in (Ok A) = Ok A.judgement
 judgement_in (Err k) = Err k
+
+-- and then there is no verdict, the count is 0, and the draw is refused by k
+pub record Empty (k : Refusal) (o : Outcome Judgement) : Type 0 where
+  pub verdicts : verdicts_of o ≡ no_verdicts
+  pub accepted : count_of o ≡ 0
+  pub draw : draw_of o ≡ Err k
+
+abbrev pub RulingEmpty : Type 0
+RulingEmpty =
+    (J : Judges) (T s b : List ℕ) (o : Outcome Ruling) → RulingOf J T s b o
+    → (k : Refusal) → o ≡ Err k → Empty k (judgement_in o)
 
 -- where the table and the set are accepted, its judgement is what judge_board answers for the set's round
 abbrev pub RulingJudged : Type 0
