@@ -1,5 +1,5 @@
 -- Recovery from the members and shares found: their members are below q, and there are t of them exactly if t or more shares are accepted.
--- Then the opening: for the commitments of accepted lines its figure and its equation decide.
+-- Then the figures of a dealer's lines, and his accepted lines as the functions below a verdict ask for them.
 use mathlib.Core.Path.{◌≡◌, refl, sym, ap, ◌∙◌, subst}
 use mathlib.Core.Bool.{true}
 use mathlib.Core.List.{List}

@@ -35,7 +35,7 @@ pub struct GatheredShares {
 }
 
 // Every dealer's verdict (dealer d at d - 1, those above n None), the count of accepted dealings, and the draw: the beacon's output,
-// or the number of the refusal.
+// or why it is refused.
 #[derive(Clone, Copy)]
 pub struct Judgement {
     pub verdicts: [Verdict; 31],
