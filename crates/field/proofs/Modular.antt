@@ -100,6 +100,3 @@ pub sum_fits : {a b c : ℕ} → c < 2 ^ 32 → a < 2 ^ 32 → b < 2 ^ 32 → c 
 sum_fits {a} {b} l h k =
     let s : a * b ≤ 4294967295 * 4294967295 = mul-le-mul {n₂ = 4294967295} {m₂ = 4294967295} (omega arith) (omega arith) in
     omega arith
-
-pub product-fits : {a b : ℕ} → a < 2 ^ 32 → b < 2 ^ 32 → a * b < 2 ^ 64
-product-fits h k = omega (arith, sum_fits {c = 0} (omega arith) h k)

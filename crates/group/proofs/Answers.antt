@@ -20,11 +20,6 @@ module _ (Gs : List Group) (k : ℕ) {r : Outcome Group} (e : r ≡ looked_up Gs
   pub group-value : {G : Group} → r ≡ Ok G → (is_group Gs k ≡ true) × (group_of Gs k ≡ G)
   group-value {G} f = let s = value-met (UnknownGroup unless is_group Gs k ∷ []) (group_of Gs k) G (sym e ∙ f) in (s.0.0, s.1)
 
-  pub group-refused : {n : Refusal} → r ≡ Err n → is_group Gs k ≡ false
-  group-refused {n} f =
-      ⊎_elim (λ u. u.0) (λ u. absurd u.1)
-      ((refused-exactly Group (UnknownGroup unless is_group Gs k ∷ []) (group_of Gs k) n).0 (sym e ∙ f))
-
 -- ---- the group of a table's number
 pub met-sound : (T : List ℕ) (k : ℕ) → Met (group_checks T k) → Sound (group_of (groups_of T) k)
 unfolding group_checks

@@ -118,15 +118,6 @@ is-value (Err k) e = absurd (false-true e)
 pub not-value : {A : Type 0} {o : Outcome A} {a : A} → is_ok o ≡ false → o ≡ Ok a → ⊥
 not-value e f = false-true (sym e ∙ ap is_ok f)
 
--- whatever the checks, what is chosen by them has a property that both have
-pub either_way : {A : Type 0} (P : A → Type 0) (cs : List Check) (a b : A) → (Met cs → P a) → P b → P (if_met cs a b)
-either_way P [] a b f p = f tt
-either_way P (c ∷ cs) a b f p = split c.met (λ e. either_way P cs a b (λ m. f (e, m)) p)
-  where
-    split : (x : Bool) → (x ≡ true → P (if_met cs a b)) → P (pick x (if_met cs a b) b)
-    split true g = g refl
-    split false g = p
-
 -- no check refuses by k: nothing is refused by it
 pub never-among : {A : Type 0} (cs : List Check) (a : A) (k : Refusal) → All (λ (c : Check). c.by ≡ k → ⊥) cs → outcome cs a ≡ Err k → ⊥
 never-among {A} cs a k n e = among cs n ((refused-exactly A cs a k).0 e)

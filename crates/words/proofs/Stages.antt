@@ -54,9 +54,6 @@ stages-met cs ds = (met-both cs ds, λ m. both-met cs ds m.0 m.1)
 
 -- ---- a stage that is met: the rest decides
 module _ (cs ds : List Check) (m : Met cs) where
-  pub rest-number : refusal ds ≡ refusal (cs ++ ds)
-  rest-number = sym (stages-number cs ds ∙ if-met (refusal ds) (refusal cs) cs m)
-
   pub rest-outcome : {A : Type 0} (a : A) → outcome ds a ≡ outcome (cs ++ ds) a
   rest-outcome {A} a = sym (stages-outcome A cs ds a ∙ if-met (outcome ds a) (outcome cs a) cs m)
 

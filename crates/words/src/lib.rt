@@ -12,7 +12,7 @@ pub use distinct::none_twice;
 pub use refusal::Refusal;
 
 // Eight words: a record of a board, or a digest.
-#[derive(Clone, Copy, PartialEq, Eq, Default)]
+#[derive(Clone, Copy, PartialEq, Eq)]
 pub struct Record {
     pub w0: u32,
     pub w1: u32,
