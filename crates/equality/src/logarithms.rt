@@ -26,12 +26,13 @@ pub fn response(gr: Group, w: Exponent, c: Exponent, e: Exponent) -> Exponent
 
 // Whether both announcements are what the challenge and the response give.
 // Internal: callers ensure that p is above 1.
+#[tactic(auto, unfolding(crate::specs::Equality::equations_hold))]
 fn equations_hold(gr: Group, e: Equality) -> bool
     requires { 1 < gr.p }
     ensures { result ≡ equations_hold gr e }
 {
-    e.a1.0 == announced(gr, e.b1, e.x1, e.c, e.r).0
-        && e.a2.0 == announced(gr, e.b2, e.x2, e.c, e.r).0
+    e.a1 == announced(gr, e.b1, e.x1, e.c, e.r)
+        && e.a2 == announced(gr, e.b2, e.x2, e.c, e.r)
 }
 
 // One proof with lent figures in a group: 6, 7 and 10. Internal: callers ensure that p is above 1.

@@ -19,7 +19,7 @@ pub fn is_element(gr: Group, v: Element) -> bool
 pub fn is_generator(gr: Group, b: Element) -> bool
     ensures { result ≡ is_generator gr b.0 }
 {
-    is_element(gr, b) && b.0 != 1
+    is_element(gr, b) && b != Element(1)
 }
 
 // Whether e is below q.

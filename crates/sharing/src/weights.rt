@@ -57,5 +57,5 @@ pub fn degree_passes(s: Setting, vs: &[u32], ds: &[u32]) -> bool
     requires { (ProperSetting s) × (length vs.now ≡ s.n) }
     ensures { result ≡ eqb (degree_product s vs.now ds.now) 1 }
 {
-    degree_product(s, vs, ds).0 == 1
+    degree_product(s, vs, ds) == Element(1)
 }
