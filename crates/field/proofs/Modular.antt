@@ -94,9 +94,3 @@ module _ (m a b : ℕ) (h : a < m) (k : b < m) where
 
   pub sub-pos : (a ≡ b → ⊥) → 0 < sub m a b
   sub-pos n = elim (dec_le b a) [ yes l ↦ rw (sub-ge l) (omega arith) | no l ↦ rw (sub-lt (omega arith)) (omega arith) ]
-
--- ---- a word and a product of two words fit 64 bits
-pub sum_fits : {a b c : ℕ} → c < 2 ^ 32 → a < 2 ^ 32 → b < 2 ^ 32 → c + a * b < 2 ^ 64
-sum_fits {a} {b} l h k =
-    let s : a * b ≤ 4294967295 * 4294967295 = mul-le-mul {n₂ = 4294967295} {m₂ = 4294967295} (omega arith) (omega arith) in
-    omega arith
