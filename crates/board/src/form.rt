@@ -6,7 +6,10 @@ ghost use Rattle.board.specs.Board.{is_shaped, is_below, record_checks, form_che
 ghost use Rattle.board.specs.Loops.{next_record_checks};
 
 use crate::search::record_count;
-use records::{ADDED, KEY, LINE, OPENING, SHARE, is_key_record, is_line_record, is_of_round, is_opening_record, is_share_record};
+use records::{
+    ADDED, KEY, LINE, OPENING, SHARE, is_key_record, is_line_record, is_of_round,
+    is_opening_record, is_share_record,
+};
 use sharing::{Setting, is_member};
 use words::{Record, Refusal, record_at};
 

@@ -139,7 +139,13 @@ pub fn judge_dealing_in(s: Setting, d: u32, ys: &[u32], lines: &[u8]) -> Result<
 // bytes; 6 a key that is no element or is 1; 22 two equal keys; 4 a record that is no line of d for the member of its place; 17 a line
 // of another round; 6 a v or Y that is no element; 7 an r or c not below q; 9 the judge's own check polynomial does not pass; 10 a
 // challenge is not the recomputed one.
-pub fn judge_dealing(table: &[u8], rd: Round, d: u32, ys: &[u32], lines: &[u8]) -> Result<(), Refusal>
+pub fn judge_dealing(
+    table: &[u8],
+    rd: Round,
+    d: u32,
+    ys: &[u32],
+    lines: &[u8],
+) -> Result<(), Refusal>
     ensures { result ≡ judge_dealing_outcome table.now rd d ys.now lines.now }
 {
     let s = setting_of(table, rd)?;

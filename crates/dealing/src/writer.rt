@@ -76,7 +76,14 @@ fn sizes_fit(n: u32, t: u32, ys: &[u32], f: &[u32], ws: &[u32], room: usize) -> 
 
 // The first number refused of 8, 3, 6, 22 and 7.
 #[tactic(auto, unfolding(crate::specs::Dealing::write_size_checks, crate::specs::Dealing::secret_checks, lines::specs::Lines::address_checks, records::specs::Keys::key_checks))]
-fn check_writing(s: Setting, d: u32, ys: &[u32], f: &[u32], ws: &[u32], room: usize) -> Result<(), Refusal>
+fn check_writing(
+    s: Setting,
+    d: u32,
+    ys: &[u32],
+    f: &[u32],
+    ws: &[u32],
+    room: usize,
+) -> Result<(), Refusal>
     ensures { result ≡ outcome (write_dealing_checks s d ys.now f.now ws.now room) tt }
 {
     if !is_member(s.n, d) {

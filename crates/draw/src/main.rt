@@ -2,7 +2,7 @@
 #![tactic(auto)]
 
 use files::read_or_empty;
-use std::io::{Write, self};
+use std::io::{self, Write};
 
 // Each space has one byte more than the longest file that is not refused for its length.
 fn main(rt: HostRuntime) {

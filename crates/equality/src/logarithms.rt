@@ -31,8 +31,7 @@ fn equations_hold(gr: Group, e: Equality) -> bool
     requires { 1 < gr.p }
     ensures { result ≡ equations_hold gr e }
 {
-    e.a1 == announced(gr, e.b1, e.x1, e.c, e.r)
-        && e.a2 == announced(gr, e.b2, e.x2, e.c, e.r)
+    e.a1 == announced(gr, e.b1, e.x1, e.c, e.r) && e.a2 == announced(gr, e.b2, e.x2, e.c, e.r)
 }
 
 // One proof with lent figures in a group: 6, 7 and 10. Internal: callers ensure that p is above 1.

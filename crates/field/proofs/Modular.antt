@@ -1,6 +1,6 @@
 -- Residues modulo m as plain numbers: a remainder below a remainder, the laws of a commutative ring, and bounds.
 use mathlib.Core.Path.{◌≡◌, sym, ◌∙◌, ap}
-use Prim.Native.Nat.{ℕ, ◌+◌, ◌-◌, ◌*◌, ◌%◌, ◌^◌, ◌≤◌, ◌<◌}
+use Prim.Native.Nat.{ℕ, ◌+◌, ◌-◌, ◌*◌, ◌%◌, ◌≤◌, ◌<◌}
 use native.Mathlib.Nat as N
 use native.Mathlib.Nat.{mod-lt, mod-mod, mod_self, mod-eq_of_lt, mod-add-mod, add-mod-mod, add-mod_right, div-add-mod, mul-add-mod_self_left, mul-le-mul}
 use native.Mathlib.Decide.{dec_le}

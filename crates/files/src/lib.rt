@@ -10,7 +10,7 @@ ghost use Rattle.io.specs.Counts.{IsPrefixLen};
 ghost use Rattle.files.specs.Answer.{Answered};
 
 use std::env::{Env, FillError};
-use std::fs::{Files, self};
+use std::fs::{self, Files};
 use std::io::{Read, Write};
 use std::str::from_utf8;
 

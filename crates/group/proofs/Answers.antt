@@ -1,12 +1,12 @@
 -- What the answer of a look-up tells: a value, that there is a group of that number; a refusal, that there is none.
 -- Then what an operation by a table and a number does: what it does in the group, where there is one.
-use mathlib.Core.Path.{◌≡◌, sym, ap, ◌∙◌, subst}
-use mathlib.Core.Bool.{true, false}
+use mathlib.Core.Path.{◌≡◌, sym, ◌∙◌, subst}
+use mathlib.Core.Bool.{true}
 use mathlib.Core.List.{List, [], ◌∷◌, ◌++◌}
-use mathlib.Core.Logic.{◌↔◌, ⊎_elim}
+use mathlib.Core.Logic.{◌↔◌}
 use Prim.Native.Nat.{ℕ}
 use Rattle.words.specs.Checks.{Check, ◌unless◌, outcome, Met, if_met, Outcome}
-use Rattle.words.proofs.Checks.{value-met, refused-exactly}
+use Rattle.words.proofs.Checks.{value-met}
 use Rattle.words.proofs.Stages.{met-both, rest-outcome, given-refused, given-value, given-kept, given-choice}
 use Rattle.group.specs.Table.{groups_of, table_checks, is_group, group_of, looked_up, group_checks, group_outcome, in_group, in_group_else}
 use Rattle.group.specs.declared.Group.{Group}

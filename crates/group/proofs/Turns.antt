@@ -1,6 +1,6 @@
 -- The turns of the loops over a table's records: the forms and the checks from the record i on, by those of the record i and those from the
 -- next on. n is the number of records. Then the group of a number, by the number of records.
-use mathlib.Core.Path.{◌≡◌, refl, sym, ap, ◌∙◌}
+use mathlib.Core.Path.{◌≡◌, refl, ap, ◌∙◌}
 use mathlib.Core.Bool.{true, false, ◌&&◌}
 use mathlib.Core.List.{List, [], ◌∷◌}
 use Prim.Native.Nat.{ℕ, suc, ◌+◌, ◌-◌, ◌≤◌, ◌<◌}
@@ -12,8 +12,7 @@ use borrow.Author.Tests.{le-leb, lt-leb}
 use lib.ListN.{length, get_or}
 use Rattle.words.proofs.Lists.{map-length, map_at, up-length, up_at}
 use Rattle.words.proofs.Tests.{true-and}
-use Rattle.std.specs.Prelude.{Ok, Err}
-use Rattle.group.specs.Table.{group, built_in, is_group_record, group_at, groups_from, groups_of, has_primes, has_generators, groups_checks, are_groups, table_checks, is_group, group_of}
+use Rattle.group.specs.Table.{group, built_in, is_group_record, group_at, groups_from, groups_of, has_primes, has_generators, groups_checks, are_groups, is_group, group_of}
 use Rattle.group.specs.declared.Group.{Group}
 use Rattle.words.specs.declared.refusal.Refusal.TheVariants.{NotPrime, NoGenerator}
 

@@ -8,7 +8,7 @@ mod arithmetic;
 mod groups;
 mod membership;
 
-pub use groups::{group_in, group_of, check_table};
+pub use groups::{check_table, group_in, group_of};
 pub use membership::{all_elements, all_exponents, is_element, is_exponent, is_generator};
 use words::Refusal;
 
@@ -43,7 +43,12 @@ pub fn power_in(gr: Group, base: Element, exponent: Exponent) -> Result<Element,
 }
 
 // An element to the power of an exponent. Refused: 3, 4, 20, 21 and 1 as group_of; 6 the base is no element; 7 the exponent is not below q.
-pub fn power(table: &[u8], number: u32, base: Element, exponent: Exponent) -> Result<Element, Refusal>
+pub fn power(
+    table: &[u8],
+    number: u32,
+    base: Element,
+    exponent: Exponent,
+) -> Result<Element, Refusal>
     ensures { result ≡ power_outcome table.now number base exponent }
 {
     let gr = group_of(table, number)?;

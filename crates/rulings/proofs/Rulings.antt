@@ -13,7 +13,7 @@ use Rattle.board.specs.Board.{board_checks}
 use Rattle.verdicts.specs.Shares.{Judges}
 use Rattle.verdicts.specs.declared.Judgement.{Judgement}
 use Rattle.rulings.specs.Files.{round_in, setting_checks, files_outcome}
-use Rattle.rulings.specs.Ruling.{JudgedIn, RulingOf, RulingMet, ruling_checks}
+use Rattle.rulings.specs.Ruling.{JudgedIn, RulingMet, ruling_checks}
 use Rattle.rulings.proofs.Settings.{files-value}
 
 -- by the answer r of the function that gives the setting

@@ -3,7 +3,7 @@ use mathlib.Core.Path.{◌≡◌, refl, sym, ap, ◌∙◌, subst}
 use mathlib.Core.List.{List, ◌++◌, append_assoc}
 use Prim.Native.Nat.{ℕ}
 use Rattle.std.specs.Prelude.{Ok, Err}
-use Rattle.words.specs.Checks.{Check, Outcome, outcome, Met, FirstUnmet}
+use Rattle.words.specs.Checks.{Check, outcome, Met, FirstUnmet}
 use Rattle.words.specs.declared.refusal.Refusal.{Refusal}
 use Rattle.words.proofs.Checks.{if-met, if-unmet, met-unmet, refused-exactly}
 use Rattle.words.proofs.Stages.{met-both, both-met, rest-outcome, front-outcome, behind-outcome}
@@ -40,9 +40,9 @@ pub ruling-refused : RulingRefused
 ruling-refused J T s b (Ok A) I k = (λ u. absurd (met-unmet (ruling_checks T s b) k I.met u), λ e. cc)
 ruling-refused J T s b (Err i) I k = (
   λ u.
-    let p = (refused-exactly Unit (ruling_checks T s b) tt i).1 I in
-    let q = (refused-exactly Unit (ruling_checks T s b) tt k).1 u in
-    let e : i ≡ k = cc in ap Err e,
+      let p = (refused-exactly Unit (ruling_checks T s b) tt i).1 I in
+      let q = (refused-exactly Unit (ruling_checks T s b) tt k).1 u in
+      let e : i ≡ k = cc in ap Err e,
   λ e. let f : i ≡ k = cc in subst (λ j. FirstUnmet j (ruling_checks T s b)) f I,
 )
 

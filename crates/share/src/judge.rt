@@ -104,7 +104,13 @@ fn judge_in(s: Setting, e: EncryptedShare, y: Element, b: &[u8]) -> Result<Eleme
 }
 
 // The judging over a table and a round: as setting_of, and then as in their setting.
-fn judge(table: &[u8], rd: Round, e: EncryptedShare, y: Element, b: &[u8]) -> Result<Element, Refusal>
+fn judge(
+    table: &[u8],
+    rd: Round,
+    e: EncryptedShare,
+    y: Element,
+    b: &[u8],
+) -> Result<Element, Refusal>
     ensures { result ≡ judge_share_outcome table.now rd e.form e.member y.0 e.encrypted.0 b.now }
 {
     let s = setting_of(table, rd)?;

@@ -16,7 +16,13 @@ use words::Refusal;
 
 // The first number refused in a setting: 8, 3, 6 and 7 as write_share.
 #[tactic(auto, unfolding(crate::specs::Share::write_share_checks, crate::specs::Share::members_checks))]
-fn check_writing(s: Setting, e: EncryptedShare, x: Exponent, w: Exponent, room: usize) -> Result<(), Refusal>
+fn check_writing(
+    s: Setting,
+    e: EncryptedShare,
+    x: Exponent,
+    w: Exponent,
+    room: usize,
+) -> Result<(), Refusal>
     ensures { result ≡ outcome (write_share_checks s e.form e.member e.encrypted.0 x.0 w.0 room) tt }
 {
     if !are_members(s.n, e.form, e.member) {
@@ -61,7 +67,13 @@ fn put_share(s: Setting, e: EncryptedShare, x: Exponent, w: Exponent, out: &mut 
 }
 
 // The writing in a setting: 8, 3, 6 and 7 as write_share. Internal: callers ensure that the setting is proper.
-fn write_in(s: Setting, e: EncryptedShare, x: Exponent, w: Exponent, out: &mut [u8]) -> Result<(), Refusal>
+fn write_in(
+    s: Setting,
+    e: EncryptedShare,
+    x: Exponent,
+    w: Exponent,
+    out: &mut [u8],
+) -> Result<(), Refusal>
     requires { ProperSetting s }
     ensures result_value { result ≡ write_share_in s e.form e.member e.encrypted.0 x.0 w.0 (length out.old) }
     ensures out_after { out.new ≡ lent_after_share_in s e.form e.member e.encrypted.0 x.0 w.0 out.old }

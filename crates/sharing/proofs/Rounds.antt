@@ -1,6 +1,6 @@
 -- What the checks of a table and a round settle: the setting is proper, and an operation over them does what it does in the setting.
 -- Then quorums, the members of a proper setting as nodes, and its figures as words.
-use mathlib.Core.Path.{◌≡◌, sym, ap, ◌∙◌, subst}
+use mathlib.Core.Path.{◌≡◌, sym, ◌∙◌, subst}
 use mathlib.Core.Bool.{Bool, true}
 use mathlib.Core.List.{List, ◌++◌}
 use mathlib.Core.Logic.{◌↔◌}

@@ -3,7 +3,7 @@ ghost use Rattle.std.specs.Prelude.{◌≡◌};
 ghost use Rattle.sharing.specs.Setting.{takes_whole, in_range, figures_outcome, setting_outcome};
 
 use crate::{Round, Setting};
-use group::{group_in, check_table};
+use group::{check_table, group_in};
 use words::Refusal;
 
 // n from 1 to 31 and below q, t from 1 to n

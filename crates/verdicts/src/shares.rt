@@ -26,16 +26,7 @@ impl GatheredShares {
 // What the judge of shares answers for the record i with the key of its member and his encrypted share: its figures decide, for the
 // board settles the rest.
 // Internal: callers ensure that verdicts are reached, that it is a share in this form, and that each member has an encrypted share.
-#[tactic(
-    auto,
-    using(
-        crate::proofs::ShareAnswers::shares_sorted,
-        crate::proofs::ShareAnswers::share_member,
-        crate::proofs::ShareAnswers::share_dealer,
-        crate::proofs::ShareAnswers::answered
-    ),
-    unfolding(words::specs::Lists::entry)
-)]
+#[tactic(auto, using(crate::proofs::ShareAnswers::shares_sorted, crate::proofs::ShareAnswers::share_member, crate::proofs::ShareAnswers::share_dealer, crate::proofs::ShareAnswers::answered), unfolding(words::specs::Lists::entry))]
 fn accepted_share(
     s: Setting,
     form: ShareForm,
@@ -101,18 +92,13 @@ fn lowest_shares(s: Setting, form: ShareForm, b: &[u8], encrypted: &[u32]) -> Ga
 
 // What the t lowest members with accepted shares recover, refused by 13 where there are fewer.
 // Internal: callers ensure that verdicts are reached, and that each member has an encrypted share.
-#[tactic(
-    auto,
-    using(
-        crate::proofs::Secrets::few_refused,
-        crate::proofs::Secrets::members_count,
-        crate::proofs::Secrets::shares_count,
-        crate::proofs::Secrets::count_most,
-        crate::proofs::Secrets::found_low,
-        crate::proofs::Secrets::found_enough
-    )
-)]
-pub(crate) fn from_lowest(s: Setting, form: ShareForm, b: &[u8], encrypted: &[u32]) -> Result<Element, Refusal>
+#[tactic(auto, using(crate::proofs::Secrets::few_refused, crate::proofs::Secrets::members_count, crate::proofs::Secrets::shares_count, crate::proofs::Secrets::count_most, crate::proofs::Secrets::found_low, crate::proofs::Secrets::found_enough))]
+pub(crate) fn from_lowest(
+    s: Setting,
+    form: ShareForm,
+    b: &[u8],
+    encrypted: &[u32],
+) -> Result<Element, Refusal>
     requires { SharesOn s b.now form encrypted.now }
     ensures { result ≡ from_lowest s b.now (shares_in judges s b.now form encrypted.now) }
 {

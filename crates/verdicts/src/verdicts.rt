@@ -37,14 +37,7 @@ fn from_shares(s: Setting, b: &[u8], d: u32, encrypted: &[u32]) -> Secret
 
 // Whether the record at this place, where there is one, holds a right opening of the commitments vs: below q, and it opens them.
 // Internal: callers ensure that the setting is proper and that vs are n elements.
-#[tactic(
-    auto,
-    unfolding(
-        sharing::specs::Answer::opening_in,
-        sharing::specs::Answer::opening_figures,
-        sharing::specs::Answer::opening_equation
-    )
-)]
+#[tactic(auto, unfolding(sharing::specs::Answer::opening_in, sharing::specs::Answer::opening_figures, sharing::specs::Answer::opening_equation))]
 fn opened_at(s: Setting, b: &[u8], at: usize, vs: &[u32]) -> bool
     requires { (ProperSetting s) × (Commitments s vs.now) }
     ensures { result ≡ ltb at (records_in b.now) && is_ok (opening_in s vs.now (u_of (record_at b.now at))) }
@@ -58,16 +51,7 @@ fn opened_at(s: Setting, b: &[u8], at: usize, vs: &[u32]) -> bool
 
 // How the secret of an accepted dealing came: a right opening counts first.
 // Internal: callers ensure that verdicts are reached, that the lines of d are accepted, and that these are their figures.
-#[tactic(
-    auto,
-    using(
-        crate::proofs::Secrets::lines_sorted,
-        crate::proofs::Secrets::commitments_are,
-        crate::proofs::Secrets::encrypted_are,
-        crate::proofs::Secrets::lines_commitments
-    ),
-    unfolding(crate::specs::Verdict::secret_by, crate::specs::Verdict::is_opened)
-)]
+#[tactic(auto, using(crate::proofs::Secrets::lines_sorted, crate::proofs::Secrets::commitments_are, crate::proofs::Secrets::encrypted_are, crate::proofs::Secrets::lines_commitments), unfolding(crate::specs::Verdict::secret_by, crate::specs::Verdict::is_opened))]
 fn secret(s: Setting, b: &[u8], d: u32, figures: Columns) -> Secret
     requires { (LinesOn s b.now d) × (figures ≡ columns_of s.n (lines_of b.now d)) }
     ensures { result ≡ secret_by judges s b.now d }
@@ -84,16 +68,7 @@ fn secret(s: Setting, b: &[u8], d: u32, figures: Columns) -> Secret
 // The verdict on the dealer d: none without lines, 12 with some but not n, else what the judge of dealings answers; the board settles all but
 // the figures of his lines.
 // Internal: callers ensure that the setting is proper, that verdicts are reached, and that ys are the board's keys.
-#[tactic(
-    auto,
-    using(
-        crate::proofs::VerdictAnswers::no_lines,
-        crate::proofs::VerdictAnswers::not_all_lines,
-        crate::proofs::VerdictAnswers::all_lines,
-        crate::proofs::VerdictAnswers::figures_are,
-        crate::proofs::VerdictAnswers::dealing_accepted
-    )
-)]
+#[tactic(auto, using(crate::proofs::VerdictAnswers::no_lines, crate::proofs::VerdictAnswers::not_all_lines, crate::proofs::VerdictAnswers::all_lines, crate::proofs::VerdictAnswers::figures_are, crate::proofs::VerdictAnswers::dealing_accepted))]
 pub(crate) fn verdict(s: Setting, ys: &[u32], b: &[u8], d: u32) -> Verdict
     requires { (ProperSetting s) × (Met (board_checks s b.now)) × (ys.now ≡ keys_in s.n b.now) }
     ensures { result ≡ verdict_on judges s b.now d }

@@ -4,20 +4,15 @@ use mathlib.Core.Path.{◌≡◌, refl, sym, ap, ◌∙◌, subst}
 use mathlib.Core.Bool.{Bool, true, false}
 use mathlib.Core.List.{List, [], ◌∷◌}
 use mathlib.Core.Logic.{◌⊎◌, inl, inr, ⊎_elim}
-use Prim.Native.Nat.{ℕ, ◌<◌}
 use native.Mathlib.Omega.{arith}
-use borrow.Author.Tests.{ltb-true}
-use lib.Dec.{ltb}
-use Rattle.words.specs.Choice.{pick}
-use Rattle.words.specs.Lists.{All, all}
+use Rattle.words.specs.Lists.{All}
 use Rattle.std.specs.Prelude.{Ok, Err, is_ok}
 use Rattle.words.specs.declared.refusal.Refusal.{Refusal}
 use Rattle.words.specs.Numbers.{number}
-use Rattle.words.specs.Checks.{Check, Outcome, refusal, outcome, Met, FirstUnmet, if_met}
+use Rattle.words.specs.Checks.{Check, Outcome, refusal, outcome, Met, FirstUnmet}
 use Rattle.words.specs.Claims.{ValueExactly, RefusedExactly, NoneExactly, FirstExactly, ChosenMet, ChosenUnmet}
 use Rattle.words.proofs.NumberLaws.{positive, one-number}
-use Rattle.words.proofs.Lists.{All-to}
-use Rattle.words.proofs.Tests.{false-true, all_true, pick_true, pick-false}
+use Rattle.words.proofs.Tests.{false-true, pick_true, pick-false}
 
 -- ---- what each fact settles: a choice, the number refused, the outcome
 pub if-met : {A : Type 0} → ChosenMet A

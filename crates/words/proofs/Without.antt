@@ -2,13 +2,10 @@
 use mathlib.Core.Path.{◌≡◌, refl, sym, ap, ◌∙◌}
 use mathlib.Core.Bool.{Bool, true, false, not}
 use mathlib.Core.List.{List, [], ◌∷◌}
-use Prim.Native.Nat.{ℕ}
-use borrow.Author.Tests.{eqb-true, eq-eqb}
-use lib.Dec.{eqb}
 use Rattle.words.specs.Choice.{pick}
 use Rattle.words.specs.Lists.{all}
 use Rattle.words.specs.Checks.{Check, Outcome, outcome, if_met, without, MetBy}
-use Rattle.words.specs.Numbers.{number, is_same}
+use Rattle.words.specs.Numbers.{is_same}
 use Rattle.words.specs.declared.refusal.Refusal.{Refusal}
 use Rattle.std.specs.Prelude.{Err}
 use Rattle.words.specs.Claims.{WithoutOutcome, WithoutChoice}

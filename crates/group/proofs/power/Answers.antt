@@ -1,5 +1,5 @@
 -- `power` meets its contract: the refusal of a table or a number is handed on, and else its group answers.
-use mathlib.Core.Path.{◌≡◌, sym, ◌∙◌}
+use mathlib.Core.Path.{◌≡◌, ◌∙◌}
 use Rattle.std.proofs.Common.{rules}
 use Rattle.std.specs.Prelude.{Err}
 use Rattle.group.specs.Answer.{power_in, power_outcome}

@@ -1,11 +1,8 @@
 -- `judge_files` meets its contract: what refuses the files or the board is handed on, else the setting and the judgement are answered.
-use mathlib.Core.Path.{◌≡◌, sym, ◌∙◌, subst}
+use mathlib.Core.Path.{◌≡◌, sym, subst}
 use Rattle.std.proofs.Common.{rules}
-use Rattle.std.specs.Prelude.{Ok, Err}
-use Rattle.words.specs.Checks.{Outcome}
-use Rattle.sharing.specs.declared.Setting.{Setting}
+use Rattle.std.specs.Prelude.{Err}
 use Rattle.verdicts.specs.Shares.{judges}
-use Rattle.verdicts.specs.declared.Judgement.{Judgement}
 use Rattle.rulings.specs.Ruling.{JudgedIn, RulingOf}
 use Rattle.rulings.proofs.Settings.{files-proper}
 use Rattle.rulings.proofs.Rulings.{files-refused, board-refused, ruled}

@@ -16,7 +16,7 @@ returns-in_err-s c =
     let a = c.args in
     let e = c.setting_of.ensures in
     let h : Err c.in_err-s.field-0.0 ≡ write_dealing_outcome a.table.now a.rd a.d a.ys.now a.f.now a.ws.now (length a.out.now)
-        = judged-refused _ _ _ _ e c.in_err-s.was in
+    = judged-refused _ _ _ _ e c.in_err-s.was in
     record {
       result_value = search rules;
       out_after = judged-kept _ _ _ _ e c.in_err-s.was _;

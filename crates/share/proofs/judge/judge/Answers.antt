@@ -14,7 +14,7 @@ unfolding judge_share_outcome
 returns-in_err-s c =
     let a = c.args in
     let h : Err c.in_err-s.field-0.0 ≡ judge_share_outcome a.table.now a.rd a.e.form a.e.member a.y.0 a.e.encrypted.0 a.b.now
-        = judged-refused _ _ _ _ c.setting_of.ensures c.in_err-s.was in
+    = judged-refused _ _ _ _ c.setting_of.ensures c.in_err-s.was in
     search rules
 
 pub returns : goal.returns
