@@ -162,7 +162,7 @@ impl Side {
         self.read_rust(tokens, &["no_mangle", ")", "]", "pub", "extern", "\"C\"", "fn"]);
         for (of, kind) in KINDS {
             for at in behind(tokens, &[of, ":", ":", kind]) {
-                let number = &tokens[next(tokens, at, "kind") + 1];
+                let number = &tokens[next(tokens, at, ">") + 1];
                 self.add("kind", &kind.to_uppercase(), number);
             }
         }

@@ -26,7 +26,7 @@ fn sizes_fit(n: u32, ys: &[u32], lines: &[u8]) -> bool
     ys.len() == k && lines.len() == 32 * k
 }
 
-// The first number refused before the figures, of 8, 3, 6 and 22 for keys, 4 and 17.
+// What a dealing is refused by before its figures: 8, 3, 6 and 22 for keys, 4 and 17.
 #[tactic(auto, unfolding(crate::specs::Dealing::dealing_form_checks, crate::specs::Dealing::judge_size_checks, lines::specs::Lines::address_checks, lines::specs::Lines::line_checks, records::specs::Keys::key_checks))]
 fn check_form(s: Setting, d: u32, ys: &[u32], lines: &[u8]) -> Result<(), Refusal>
     ensures { result ≡ outcome (dealing_form_checks s d ys.now lines.now) tt }
@@ -77,7 +77,7 @@ fn all_equal(c: Exponent, cs: [u32; 31], n: usize) -> bool
     cs[..n].iter().all(|&x| x == c.0)
 }
 
-// The first number refused of 6 for a v or Y, and 7. Internal: callers ensure a proper setting.
+// What figures are refused by before the equations: 6 for a v or Y, and 7. Internal: callers ensure a proper setting.
 #[tactic(auto, using(sharing::proofs::EachMember::entries_all), unfolding(crate::specs::Dealing::range_checks))]
 fn check_ranges(
     s: Setting,
@@ -113,16 +113,16 @@ fn judge_figures(s: Setting, d: u32, ys: &[u32], figures: Columns) -> Result<(),
     passed_if(all_equal(c, figures.cs, s.n as usize), Refusal::ProofFails)
 }
 
-// Judges the lines of the dealer d by their figures, which are read once; those of accepted ones are handed back. Refused: 6 for a v or
-// Y, 7, 9 and 10.
+// Judges the lines of the dealer d by their figures, which are read once and handed back before the answer: 6 for a v or Y, 7, 9 and 10.
 // Internal: callers ensure a proper setting, a dealer at most n, n keys and n lines.
-pub fn judge_lines(s: Setting, d: u32, ys: &[u32], lines: &[u8]) -> Result<Columns, Refusal>
+pub fn judge_lines(s: Setting, d: u32, ys: &[u32], lines: &[u8]) -> (Columns, Result<(), Refusal>)
     requires { (ProperSetting s) × (d ≤ s.n) × (length ys.now ≡ s.n) × (length lines.now ≡ 32 * s.n) }
-    ensures { result ≡ outcome (line_figure_checks s d ys.now lines.now) (columns_of s.n lines.now) }
+    ensures answer_value { result.1 ≡ outcome (line_figure_checks s d ys.now lines.now) tt }
+    ensures figures_value { result.0 ≡ columns_of s.n lines.now }
 {
     let figures = read_lines(lines, s.n as usize);
-    judge_figures(s, d, ys, figures)?;
-    Ok(figures)
+    let answer = judge_figures(s, d, ys, figures);
+    (figures, answer)
 }
 
 // Judges a dealing in a setting: 8, 3, 6, 22, 4, 17, 6, 7, 9 and 10. Internal: callers ensure that the setting is proper.
@@ -131,8 +131,7 @@ pub fn judge_dealing_in(s: Setting, d: u32, ys: &[u32], lines: &[u8]) -> Result<
     ensures { result ≡ judge_dealing_in s d ys.now lines.now }
 {
     check_form(s, d, ys, lines)?;
-    judge_lines(s, d, ys, lines)?;
-    Ok(())
+    judge_lines(s, d, ys, lines).1
 }
 
 // Judges the lines of the dealer d, with the keys ys. Refused: as setting_of; 8 d is no member; 3 not n keys or not 32n

@@ -74,7 +74,7 @@ fn sizes_fit(n: u32, t: u32, ys: &[u32], f: &[u32], ws: &[u32], room: usize) -> 
     ys.len() == k && f.len() == t as usize && ws.len() == k && room == 32 * k
 }
 
-// The first number refused of 8, 3, 6, 22 and 7.
+// What the writing is refused by: 8, 3, 6, 22 and 7 as write_dealing.
 #[tactic(auto, unfolding(crate::specs::Dealing::write_size_checks, crate::specs::Dealing::secret_checks, lines::specs::Lines::address_checks, records::specs::Keys::key_checks))]
 fn check_writing(
     s: Setting,

@@ -1,12 +1,12 @@
 -- What the answer of a look-up tells: a value, that there is a group of that number; a refusal, that there is none.
 -- Then what an operation by a table and a number does: what it does in the group, where there is one.
 use mathlib.Core.Path.{◌≡◌, sym, ◌∙◌, subst}
-use mathlib.Core.Bool.{true}
+use mathlib.Core.Bool.{true, false}
 use mathlib.Core.List.{List, [], ◌∷◌, ◌++◌}
-use mathlib.Core.Logic.{◌↔◌}
+use mathlib.Core.Logic.{◌↔◌, ⊎_elim}
 use Prim.Native.Nat.{ℕ}
 use Rattle.words.specs.Checks.{Check, ◌unless◌, outcome, Met, if_met, Outcome}
-use Rattle.words.proofs.Checks.{value-met}
+use Rattle.words.proofs.Checks.{value-met, refused-exactly}
 use Rattle.words.proofs.Stages.{met-both, rest-outcome, given-refused, given-value, given-kept, given-choice}
 use Rattle.group.specs.Table.{groups_of, table_checks, is_group, group_of, looked_up, group_checks, group_outcome, in_group, in_group_else}
 use Rattle.group.specs.declared.Group.{Group}
@@ -19,6 +19,10 @@ use Rattle.words.specs.declared.refusal.Refusal.{Refusal}
 module _ (Gs : List Group) (k : ℕ) {r : Outcome Group} (e : r ≡ looked_up Gs k) where
   pub group-value : {G : Group} → r ≡ Ok G → (is_group Gs k ≡ true) × (group_of Gs k ≡ G)
   group-value {G} f = let s = value-met (UnknownGroup unless is_group Gs k ∷ []) (group_of Gs k) G (sym e ∙ f) in (s.0.0, s.1)
+
+  pub group-refused : {n : Refusal} → r ≡ Err n → is_group Gs k ≡ false
+  group-refused {n} f =
+      ⊎_elim (λ u. u.0) (λ u. absurd u.1) ((refused-exactly Group (UnknownGroup unless is_group Gs k ∷ []) (group_of Gs k) n).0 (sym e ∙ f))
 
 -- ---- the group of a table's number
 pub met-sound : (T : List ℕ) (k : ℕ) → Met (group_checks T k) → Sound (group_of (groups_of T) k)

@@ -36,8 +36,8 @@ fn all_of_round(round: u32, lines: &[u8], n: u32) -> bool
     (0..n as usize).all(|i| is_of_round(round, record_at(lines, i)))
 }
 
-// The number by which the lines of the dealer d are refused: 4 a record that is no line of d for the member of its
-// place; 17 a line of another round. Internal: callers ensure that the bytes are n records.
+// What the lines of the dealer d are refused by: 4 a record that is no line of d for the member of its place; 17 a line of another round.
+// Internal: callers ensure that the bytes are n records.
 #[tactic(auto, unfolding(crate::specs::Lines::line_checks))]
 pub fn check_lines(s: Setting, d: u32, lines: &[u8]) -> Result<(), Refusal>
     requires { length lines.now ≡ 32 * s.n }

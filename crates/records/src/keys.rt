@@ -21,7 +21,7 @@ pub fn all_keys(gr: Group, ys: &[u32]) -> bool
     ys.iter().all(|&y| is_key(gr, Element(y)))
 }
 
-// The number by which the members' keys are refused: 6 a number that is no key; 22 two equal keys.
+// What the members' keys are refused by: 6 a number that is no key; 22 two equal keys.
 pub fn check_keys(gr: Group, ys: &[u32]) -> Result<(), Refusal>
     ensures { result ≡ outcome (key_checks gr ys.now) tt }
 {

@@ -8,6 +8,7 @@ ghost use Rattle.records.specs.Layout.{is_key_record, is_line_record, is_opening
 use group::{Element, Exponent};
 use words::Record;
 
+// Kinds are numbers and no enum: a board holds any word, and the laws of shares hold of a form of any kind.
 pub const KEY: u32 = 1;
 
 pub const LINE: u32 = 2;

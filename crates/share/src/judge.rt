@@ -21,7 +21,7 @@ fn is_share_of(form: ShareForm, i: u32, share: Record) -> bool
     is_share_record(form.kind, share) && share.w1 == form.dealer && share.w2 == i
 }
 
-// The first number refused of all that comes before the figures: 8, 3, 6 for y or the encrypted share, 4 and 17.
+// What a share is refused by before its figures: 8, 3, 6 for y or the encrypted share, 4 and 17.
 #[tactic(auto, unfolding(crate::specs::Share::share_admission_checks, crate::specs::Share::members_checks, crate::specs::Share::share_input_checks, crate::specs::Share::share_form_checks))]
 fn check_admission(s: Setting, e: EncryptedShare, y: Element, b: &[u8]) -> Result<(), Refusal>
     ensures { result ≡ outcome (share_admission_checks s e.form e.member y.0 e.encrypted.0 b.now) tt }

@@ -10,7 +10,8 @@ use group::Element;
 pub use judge::{judge_added, judge_share, judge_share_figures};
 pub use writer::{write_added, write_share};
 
-// The form of a share: the tag of its message, the kind of its record, and its dealer, 0 for an added share.
+// The form of a share: the tag of its message, the kind of its record, and its dealer, 0 for an added share. No enum of the two: the laws
+// of shares hold of every such form.
 #[derive(Clone, Copy)]
 pub struct ShareForm {
     pub tag: u8,

@@ -14,7 +14,7 @@ use records::{is_secret_key, share_record};
 use sharing::{Round, Setting, setting_of};
 use words::Refusal;
 
-// The first number refused in a setting: 8, 3, 6 and 7 as write_share.
+// What the writing is refused by in a setting: 8, 3, 6 and 7 as write_share.
 #[tactic(auto, unfolding(crate::specs::Share::write_share_checks, crate::specs::Share::members_checks))]
 fn check_writing(
     s: Setting,

@@ -9,7 +9,6 @@ use lib.ListN.{length}
 use lib.Dec.{eqb}
 use Rattle.words.specs.Checks.{Outcome, Met, outcome}
 use Rattle.words.specs.Bytes.{records_in}
-use Rattle.words.proofs.Checks.{value-met, value-exactly, refused-exactly}
 use Rattle.words.proofs.Lists.{map-length, up-length}
 use Rattle.words.proofs.Tests.{true-and, true-equal, pick_true, pick-false}
 use Rattle.sharing.specs.Setting.{ProperSetting, members}
@@ -105,23 +104,18 @@ module _ (S : Setting) (b : List ℕ) (d : ℕ) (P : ProperSetting S) (m : Met (
         decided : outcome (line_figure_checks S d ys lines) tt ≡ dealing_answer judges S b d
         decided = figures-decide S d ys lines lines_formed ∙ (λ i. judge_dealing_in S d (y i) (e i))
 
-        pub judge_refuses : {i : Refusal} → Err i ≡ outcome (line_figure_checks S d ys lines) (columns_of S.n lines) → Refused i ≡ verdict_on judges S b d
-        judge_refuses {i} j =
-            let u = (refused-exactly Columns (line_figure_checks S d ys lines) (columns_of S.n lines) i).0 (sym j) in
-            told (sym ((refused-exactly Unit (line_figure_checks S d ys lines) tt i).1 u) ∙ decided)
+        pub judge_refuses : {i : Refusal} → Err i ≡ outcome (line_figure_checks S d ys lines) (tt {0}) → Refused i ≡ verdict_on judges S b d
+        judge_refuses j = told (j ∙ decided)
 
-        module _ {figures : Columns} (j : Ok figures ≡ outcome (line_figure_checks S d ys lines) (columns_of S.n lines)) where
-          given : Met (line_figure_checks S d ys lines) × (columns_of S.n lines ≡ figures)
-          given = value-met (line_figure_checks S d ys lines) (columns_of S.n lines) figures (sym j)
+        pub figures_are : {figures : Columns} → figures ≡ columns_of S.n lines → figures ≡ columns_of S.n (lines_of b d)
+        figures_are f = f ∙ ap (columns_of S.n) e
 
+        module _ (j : Ok tt ≡ outcome (line_figure_checks S d ys lines) (tt {0})) where
           passes : Ok tt ≡ dealing_answer judges S b d
-          passes = sym ((value-exactly Unit (line_figure_checks S d ys lines) tt).1 given.0) ∙ decided
+          passes = j ∙ decided
 
           pub all_lines : LinesOn S b d
           all_lines = record { proper = P; reached = m; accepted = sym passes }
-
-          pub figures_are : figures ≡ columns_of S.n (lines_of b d)
-          figures_are = sym given.1 ∙ ap (columns_of S.n) e
 
           pub dealing_accepted : {s : Secret} → s ≡ secret_by judges S b d → Accepted s ≡ verdict_on judges S b d
           dealing_accepted h = ap Accepted h ∙ told passes

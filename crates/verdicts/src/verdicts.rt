@@ -81,8 +81,9 @@ pub(crate) fn verdict(s: Setting, ys: &[u32], b: &[u8], d: u32) -> Verdict
     if count != s.n as usize {
         return Verdict::Refused(Refusal::Incomplete);
     }
-    match judge_lines(s, d, ys, lines) {
-        Err(k) => Verdict::Refused(k),
-        Ok(figures) => Verdict::Accepted(secret(s, b, d, figures)),
+    let (figures, answer) = judge_lines(s, d, ys, lines);
+    match answer {
+        Err(refusal) => Verdict::Refused(refusal),
+        Ok(()) => Verdict::Accepted(secret(s, b, d, figures)),
     }
 }

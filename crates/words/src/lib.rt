@@ -102,7 +102,7 @@ pub fn write_record(b: &mut [u8], r: Record)
     put_word(b, 28, r.w7);
 }
 
-// Whether all words are the same.
+// Whether all words are the same: `==`, under the name that definitions have for it.
 pub fn agrees(r: Record, s: Record) -> bool
     ensures { result ≡ agrees r s }
 {

@@ -1,12 +1,8 @@
 -- `judge_dealing_in` meets its contract: the form decides where it refuses, and else the figures.
-use mathlib.Core.Path.{◌≡◌, sym, ◌∙◌}
-use mathlib.Core.List.{List}
+use mathlib.Core.Path.{◌≡◌, ◌∙◌}
 use Rattle.std.proofs.Common.{rules}
 use Rattle.std.specs.Prelude.{Err}
-use Rattle.words.specs.Checks.{Check}
-use Rattle.words.proofs.Checks.{value-met, value-exactly, refused-exactly}
 use Rattle.words.proofs.Stages.{stage-met, stage-refused}
-use Rattle.lines.specs.declared.Columns.{Columns}
 use Rattle.dealing.specs.Dealing.{dealing_form_checks, line_figure_checks, judge_dealing_in}
 use Rattle.dealing.proofs.Settled.{met-formed}
 use Rattle.dealing.proofs.Judged.{figures-decide}
@@ -26,19 +22,8 @@ judge_lines-requires c =
     let F = met-formed a.s a.d a.ys.now a.lines.now (stage-met (dealing_form_checks _ _ _ _) c.in_ok-check_form.ensures) in
     (c.requires, F.dealer.1, F.keys-size, F.size)
 
-pub returns-in_err-judge_lines : goal.returns-in_err-judge_lines
-returns-in_err-judge_lines c =
-    let a = c.args in
-    let F = met-formed a.s a.d a.ys.now a.lines.now (stage-met (dealing_form_checks _ _ _ _) c.in_ok-check_form.ensures) in
-    let cs : List Check = line_figure_checks a.s a.d a.ys.now a.lines.now in
-    let k = c.in_err-judge_lines.field-0.0 in
-    let first = (refused-exactly Columns cs _ k).0 (sym c.in_err-judge_lines.ensures) in
-    let h : Err k ≡ judge_dealing_in a.s a.d a.ys.now a.lines.now = sym ((refused-exactly Unit cs tt k).1 first) ∙ figures-decide _ _ _ _ F in
-    search rules
-
 pub returns : goal.returns
 returns c =
     let a = c.args in
     let F = met-formed a.s a.d a.ys.now a.lines.now (stage-met (dealing_form_checks _ _ _ _) c.in_ok-check_form.ensures) in
-    let cs : List Check = line_figure_checks a.s a.d a.ys.now a.lines.now in
-    sym ((value-exactly Unit cs tt).1 (value-met cs _ _ (sym c.in_ok-judge_lines.ensures)).0) ∙ figures-decide _ _ _ _ F
+    c.judge_lines.ensures.answer_value ∙ figures-decide _ _ _ _ F
