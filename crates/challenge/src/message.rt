@@ -11,6 +11,7 @@ use crate::exponent::exponent_of;
 use group::Exponent;
 use sharing::Setting;
 
+// Bytes and no enum: the laws of shares hold of a form of any tag.
 const DEALING_TAG: u8 = 0x44;
 
 pub const SHARE_TAG: u8 = 0x53;

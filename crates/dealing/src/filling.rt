@@ -1,4 +1,4 @@
-// An array with a number for each member.
+// An array with a number for each member: of 31, whatever n is, for nothing is allocated.
 ghost use Rattle.std.specs.Prelude.{◌≡◌, ℕ, ◌+◌, ◌<◌, ◌≤◌};
 ghost use Rattle.words.specs.Lists.{map, filled};
 ghost use Rattle.sharing.specs.Setting.{members};

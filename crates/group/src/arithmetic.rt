@@ -43,6 +43,7 @@ impl Element {
     }
 }
 
+// Apart from those of `Element`, and not by one trait: the scope paper wants it so, and each has its own modulus.
 impl Exponent {
     // Internal: callers ensure that both are below q.
     pub fn minus(self, gr: Group, e: Exponent) -> Exponent

@@ -10,6 +10,7 @@ use crate::{Element, Group};
 use field::is_prime;
 use words::{Record, Refusal, record_at};
 
+// A number, as the kinds in `records`.
 const GROUP: u32 = 7;
 
 // A built-in group.

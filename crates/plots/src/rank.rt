@@ -8,6 +8,7 @@ use group::Element;
 use sha256::digest;
 use words::put_word;
 
+// A byte, as the tags in `challenge`.
 const PLOT_TAG: u8 = 0x4C;
 
 // The rank of a plot: the first four bytes of its message's digest, as a number. A digest of ten bytes is not refused.

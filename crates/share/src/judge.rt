@@ -140,6 +140,7 @@ pub fn judge_share(
     judge(table, rd, opened, y, b)
 }
 
+// A name beside judge_share, as C has both.
 // Judges the record b of an added share of the member i, with the key y of the member and the product of the encrypted shares of
 // his lines over all accepted dealings: an accepted one answers the decrypted share. Refused: as setting_of; 8 i is no
 // member; 3 not 32 bytes; 6 y or the product is no element, or y is 1; 4 no record of an added share of i; 17 one of another

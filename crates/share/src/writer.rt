@@ -123,6 +123,7 @@ pub fn write_share(
     write(table, rd, opened, x, w, out)
 }
 
+// A name beside write_share, as C has both.
 // Writes the added share of the member i, from the product of the encrypted shares of his lines over all accepted dealings, the
 // secret key x and the nonce w. Refused, with no lent byte changed: as setting_of; 8 i is no member; 3 not 32 bytes; 6 the
 // product is no element; 7 x is 0 or not below q, or w is not below q.
