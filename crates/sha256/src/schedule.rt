@@ -10,7 +10,9 @@ fn first_words(m: &[u32; 16]) -> [u32; 64]
     ensures { result ≡ filled 64 (schedule m.now 16) }
 {
     let mut w = [0u32; 64];
-    w[..16].copy_from_slice(m);
+    for t in 0..16 {
+        w[t] = m[t];
+    }
     w
 }
 

@@ -50,8 +50,13 @@ impl From<Verdict> for VerdictFigures {
     }
 }
 
-pub(crate) fn verdicts_of(places: [Verdict; 31]) -> [VerdictFigures; 31]
-    ensures { result ≡ map verdict_of places }
+// By reference, and into one array: std's `map` of an array would copy both once more on the stack.
+pub(crate) fn verdicts_of(places: &[Verdict; 31]) -> [VerdictFigures; 31]
+    ensures { result ≡ map verdict_of places.now }
 {
-    places.map(|v| VerdictFigures::from(v))
+    let mut figures = [VerdictFigures { kind: 0, value: 0 }; 31];
+    for i in 0..31 {
+        figures[i] = VerdictFigures::from(places[i]);
+    }
+    figures
 }

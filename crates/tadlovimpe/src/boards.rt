@@ -70,7 +70,7 @@ pub extern "C" fn tadlovimpe_judge_board(table: &[u8], round: Round, board: &[u8
                 refusal: draw.refusal,
                 value: draw.value,
                 accepted: judged.accepted,
-                verdicts: verdicts_of(judged.verdicts),
+                verdicts: verdicts_of(&judged.verdicts),
             }
         }
     }

@@ -1,26 +1,26 @@
--- `verdicts_of` meets its contract: at each place stand the figures of that place.
-use mathlib.Core.Path.{◌≡◌, sym, ◌∙◌}
-use Prim.Native.Nat.{ℕ, ◌<◌}
+-- `verdicts_of` meets its contract: the loop fills the array from the front.
+use mathlib.Core.Path.{◌≡◌, refl, sym, ◌∙◌}
 use native.Mathlib.Omega.{arith}
-use borrow.Author.Rules.{rules}
-use lib.ListN.{length, get_or}
-use lib.Seq.{ext_get_or}
-use Rattle.words.specs.Lists.{map}
-use Rattle.words.proofs.Lists.{map-length, map_at}
-use Rattle.tadlovimpe.specs.Figures.{verdict_of}
-use Rattle.tadlovimpe.specs.declared.VerdictFigures.{VerdictFigures}
+use lib.ListN.{length-set}
 use Rattle.verdicts.specs.declared.Verdict.TheVariants.{None}
-use Rattle.verdicts.specs.declared.Verdict.{Verdict}
+use Rattle.tadlovimpe.specs.Figures.{verdict_of}
+use Rattle.tadlovimpe.proofs.Mapped.{mapped_next, mapped-all}
 use Rattle.tadlovimpe.proofs.answers.verdicts_of.Goals as goal
+
+pub loop-i-init : goal.loop-i-init
+loop-i-init c = (refl, refl)
+
+pub loop-i-preserved : goal.loop-i-preserved
+loop-i-preserved c =
+    let l = c.loop-i in
+    let s = c.args.places.now in (
+      simp length-set l.invariant.0,
+      mapped_next verdict_of s _ l.i l.invariant.1 None (omega (arith, l.invariant.0)) (omega arith) c.from.ensures,
+    )
 
 pub returns : goal.returns
 returns c =
-    let s = c.args.places in
-    let d : Verdict = None in
-    let e : VerdictFigures = record { kind = 0; value = 0 } in
-    let each = c.map.ensures.items in
-    let size : length s ≡ 31 = omega arith in
-    let long : length c.map.result ≡ length (map verdict_of s) = each.long ∙ sym (map-length verdict_of s ∙ size) in
-    let at : (i : ℕ) → i < 31 → get_or c.map.result i e ≡ verdict_of (get_or s i d) = λ i l. let h = each.at i d e l in search rules in
-    ext_get_or e c.map.result (map verdict_of s) long
-    (λ i l. at i (omega (arith, each.long)) ∙ sym (map_at verdict_of s i d e (omega (arith, each.long))))
+    let l = c.loop-i in
+    let s = c.args.places.now in
+    let e : l.i ≡ 31 = omega arith in
+    mapped-all verdict_of s _ l.i l.invariant.1 (l.invariant.0 ∙ sym e) (omega arith)
