@@ -1,11 +1,14 @@
 -- Proofs of what specs/Claims.antt states. Two facts carry them: an answer goes by cases on its outcome, and no refusal has the number 0.
 use mathlib.Core.Path.{◌≡◌, refl, sym, ap, ◌∙◌}
-use mathlib.Core.List.{List, ◌++◌}
+use mathlib.Core.Bool.{Bool, true, false}
+use mathlib.Core.List.{List, [], ◌∷◌, ◌++◌}
 use Prim.Native.Nat.{ℕ, ◌<◌}
 use native.Mathlib.Omega.{arith}
 use lib.ListN.{length}
 use Rattle.words.specs.Lists.{map}
-use Rattle.words.specs.Checks.{Check, Outcome, outcome, FirstUnmet}
+use Rattle.words.specs.Choice.{pick}
+use Rattle.words.specs.Numbers.{number}
+use Rattle.words.specs.Checks.{Check, Outcome, outcome, refusal, FirstUnmet}
 use Rattle.words.proofs.NumberLaws.{positive}
 use Rattle.group.specs.declared.Element.{Element}
 use Rattle.sharing.specs.Setting.{setting_in, round_checks, judged}
@@ -13,12 +16,21 @@ use Rattle.sharing.specs.declared.Round.{Round}
 use Rattle.board.specs.Board.{lines_checks, lines_outcome, lines_part, lines_at}
 use Rattle.verdicts.specs.Draw.{draw_outcome}
 use Rattle.rulings.proofs.Theorems.{judgement-exactly}
-use Rattle.tadlovimpe.specs.Figures.{answer_of, part_of, verdict_of}
-use Rattle.tadlovimpe.specs.Claims.{AnswerRefused, PartRefused, PartExactly, BoardRefused, BoardUnmet}
+use Rattle.tadlovimpe.specs.Figures.{number_of, answer_of, part_of, verdict_of}
+use Rattle.tadlovimpe.specs.Claims.{NumberExactly, AnswerRefused, PartRefused, PartExactly, BoardRefused, BoardUnmet}
 use Rattle.std.specs.Prelude.{Ok, Err}
 use Rattle.words.specs.declared.refusal.Refusal.{Refusal}
 
 -- ---- by cases on the outcome
+pub number-exactly : NumberExactly
+number-exactly A [] a = refl
+number-exactly A (c ∷ cs) a = split c.met (number-exactly A cs a)
+  where
+    split : (b : Bool) → number_of (outcome cs a) ≡ refusal cs
+        → number_of {A = A} (pick b (outcome cs a) (Err c.by)) ≡ pick b (refusal cs) (number c.by)
+    split true e = e
+    split false e = refl
+
 pub answer-refused : AnswerRefused
 answer-refused (Ok v) n = absurd (n refl)
 answer-refused (Err k) n = refl

@@ -2,15 +2,20 @@
 -- board that was judged. The proofs are in proofs/Refusals.antt.
 use Rattle.std.specs.Prelude.{◌≡◌, List, ◌++◌, ◌↔◌, ℕ, replicate, Ok}
 use Rattle.words.specs.Numbers.{number}
-use Rattle.words.specs.Checks.{Outcome, FirstUnmet}
+use Rattle.words.specs.Checks.{Check, Outcome, outcome, refusal, FirstUnmet}
 use Rattle.words.specs.declared.refusal.Refusal.{Refusal}
 use Rattle.group.specs.declared.Element.{Element}
 use Rattle.sharing.specs.Setting.{setting_in, round_checks}
 use Rattle.sharing.specs.declared.Round.{Round}
 use Rattle.board.specs.Board.{board_checks, lines_outcome}
 use Rattle.verdicts.specs.Shares.{Judges}
-use Rattle.tadlovimpe.specs.Figures.{answer_of, part_on, board_on}
+use Rattle.tadlovimpe.specs.Figures.{number_of, answer_of, part_on, board_on}
 use Rattle.tadlovimpe.specs.declared.BoardAnswer.{BoardAnswer}
+
+-- ---- one number
+-- what C is handed is the number of the first check that is not met, 0 where every one is
+abbrev pub NumberExactly : Type 1
+NumberExactly = (A : Type 0) (cs : List Check) (a : A) → number_of (outcome cs a) ≡ refusal cs
 
 -- ---- one value
 abbrev pub AnswerRefused : Type 0

@@ -9,8 +9,8 @@ use Rattle.words.specs.Lists.{All}
 use Rattle.std.specs.Prelude.{Ok, Err, is_ok}
 use Rattle.words.specs.declared.refusal.Refusal.{Refusal}
 use Rattle.words.specs.Numbers.{number}
-use Rattle.words.specs.Checks.{Check, Outcome, refusal, outcome, Met, FirstUnmet}
-use Rattle.words.specs.Claims.{ValueExactly, RefusedExactly, NoneExactly, FirstExactly, ChosenMet, ChosenUnmet}
+use Rattle.words.specs.Checks.{Check, Outcome, refusal, outcome, Met, FirstUnmet, if_met}
+use Rattle.words.specs.Claims.{ValueExactly, RefusedExactly, NoneExactly, FirstExactly, RefusedNumber, ChosenMet, ChosenUnmet}
 use Rattle.words.proofs.NumberLaws.{positive, one-number}
 use Rattle.words.proofs.Tests.{false-true, pick_true, pick-false}
 
@@ -101,6 +101,9 @@ none-exactly cs = (none-met cs, met-none cs)
 pub first-exactly : FirstExactly
 first-exactly cs k = (number-first cs k, first-number cs k)
 
+pub refused-number : RefusedNumber
+refused-number A cs a k = (λ e. first-number cs k (refused-first cs a k e), λ e. first-refused cs a k (number-first cs k e))
+
 -- not both facts hold
 pub met-unmet : (cs : List Check) (k : Refusal) → Met cs → FirstUnmet k cs → ⊥
 met-unmet cs k m u = value-refused {A = Unit {0}} (sym (met-value cs (tt {0}) m) ∙ first-refused cs (tt {0}) k u)
@@ -112,6 +115,14 @@ is-value (Err k) e = absurd (false-true e)
 
 pub not-value : {A : Type 0} {o : Outcome A} {a : A} → is_ok o ≡ false → o ≡ Ok a → ⊥
 not-value e f = false-true (sym e ∙ ap is_ok f)
+
+-- whatever the checks, what is chosen by them has a property that both have
+pub either_way : {A : Type 0} (P : A → Type 0) (cs : List Check) (a b : A) → (Met cs → P a) → P b → P (if_met cs a b)
+either_way P cs a b f p =
+    ⊎_elim
+    (λ m. subst P (sym (if-met a b cs m)) (f m))
+    (λ u. subst P (sym (if-unmet a b cs u.0 u.1)) p)
+    (decided cs)
 
 -- no check refuses by k: nothing is refused by it
 pub never-among : {A : Type 0} (cs : List Check) (a : A) (k : Refusal) → All (λ (c : Check). c.by ≡ k → ⊥) cs → outcome cs a ≡ Err k → ⊥

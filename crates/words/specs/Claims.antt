@@ -24,6 +24,10 @@ NoneExactly = (cs : List Check) → (refusal cs ≡ 0) ↔ Met cs
 abbrev pub FirstExactly : Type 0
 FirstExactly = (cs : List Check) (k : Refusal) → (refusal cs ≡ number k) ↔ FirstUnmet k cs
 
+-- the refusal answered is k exactly if the number is that of k
+abbrev pub RefusedNumber : Type 1
+RefusedNumber = (A : Type 0) (cs : List Check) (a : A) (k : Refusal) → (outcome cs a ≡ Err k) ↔ (refusal cs ≡ number k)
+
 -- the choice by checks, which says what a lent buffer holds afterwards: the first where every check is met, the second where one is not
 abbrev pub ChosenMet : Type 0 → Type 0
 ChosenMet A = (a b : A) (cs : List Check) → Met cs → if_met cs a b ≡ a

@@ -38,8 +38,8 @@ impl Record {
     };
 }
 
-// Refused by `refusal` unless the test holds.
-pub fn passed_if(test: bool, refusal: Refusal) -> Result<(), Refusal>
+// Refused by `refusal`, of whatever type, unless the test holds.
+pub fn passed_if<E: Drop>(test: bool, refusal: E) -> Result<(), E>
     ensures { result ≡ pick test (Ok tt) (Err refusal) }
 {
     if test { Ok(()) } else { Err(refusal) }
