@@ -1,17 +1,22 @@
 -- The turns of the loop over a chain's links: what the checks from the link i on give, by those of the link i and those from the next on.
-use mathlib.Core.Path.{◌≡◌, sym, ap, ◌∙◌}
+use mathlib.Core.Path.{◌≡◌, refl, sym, ap, ◌∙◌}
+use mathlib.Core.Bool.{Bool, true, false, ◌&&◌}
 use mathlib.Core.List.{List, ◌++◌}
-use Prim.Native.Nat.{ℕ, suc, ◌+◌, ◌-◌, ◌<◌}
+use Prim.Native.Nat.{ℕ, suc, ◌+◌, ◌-◌, ◌<◌, ◌≤◌}
 use native.Mathlib.Omega.{arith}
+use borrow.Author.Tests.{le-ltb, ne_eqb}
+use lib.Dec.{ltb, eqb}
 use Rattle.std.specs.Prelude.{Ok, Err}
 use Rattle.words.specs.Checks.{Check, Outcome, outcome}
 use Rattle.words.specs.declared.Record.{Record}
 use Rattle.words.specs.declared.refusal.Refusal.{Refusal}
+use Rattle.words.specs.declared.refusal.Refusal.TheVariants.{BadLength}
+use Rattle.words.proofs.Tests.{pick-false}
 use Rattle.words.proofs.Stages.{stage-met, stage-refused, rest-outcome}
 use Rattle.group.specs.declared.Group.{Group}
 use Rattle.chain.specs.Link.{link_checks}
 use Rattle.group.specs.Table.{groups_of}
-use Rattle.chain.specs.Chain.{figures_at, digest_at, digest_after, links_checks, chain_checks, chain_outcome, next_checks, extend_checks}
+use Rattle.chain.specs.Chain.{links_in, figures_at, digest_at, digest_after, links_checks, chain_checks, chain_outcome, next_checks, extend_checks}
 
 -- the checks of the link i
 abbrev pub checks_at : List Group → List ℕ → ℕ → List Check
@@ -48,3 +53,18 @@ pub behind_chain : (T b : List ℕ) (number v room : ℕ) → Ok tt ≡ chain_ou
 unfolding chain_outcome extend_checks
 behind_chain T b number v room e =
     sym (rest-outcome (chain_checks T b) (next_checks (groups_of T) b number v room) (stage-met (chain_checks T b) e) tt)
+
+-- it is refused by 3 where the chain is full, and where there is not the room of one link
+module _ (T b : List ℕ) (number v room : ℕ) (e : Ok tt ≡ chain_outcome T b) where
+  without-room : (ltb (links_in b) 1024 && eqb room 64) ≡ false → outcome (extend_checks T b number v room) (tt {0}) ≡ Err BadLength
+  without-room f = behind_chain T b number v room e ∙ pick-false _ _ (Err BadLength) f
+
+  pub full_refused : 1024 ≤ links_in b → outcome (extend_checks T b number v room) (tt {0}) ≡ Err BadLength
+  full_refused h = without-room (ap (λ (x : Bool). x && eqb room 64) (le-ltb (links_in b) 1024 h))
+
+  pub room_refused : (room ≡ 64 → ⊥) → outcome (extend_checks T b number v room) (tt {0}) ≡ Err BadLength
+  room_refused n = without-room (last-false (ltb (links_in b) 1024) (ne_eqb room 64 n))
+    where
+      last-false : (x : Bool) {y : Bool} → y ≡ false → (x && y) ≡ false
+      last-false true e = e
+      last-false false e = refl

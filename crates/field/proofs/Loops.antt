@@ -86,7 +86,7 @@ module _ (m : ℕ) where
     whole = ap (λ (x : ℕ). d * x + m % d) t.quotient ∙ div-add-mod m d
 
     -- 3 * d ≤ d * d ≤ m
-    trial-room : d ≤ k → 3 * d ≤ m
+    pub trial-room : d ≤ k → 3 * d ≤ m
     trial-room l = le_trans (mul-le-mul_right d t.d-high) ((le-div_iff_mul-le (omega (arith, t.d-high))).0 (omega (arith, t.quotient)))
 
     pub trial-stop : d ≤ k → d * k ≡ m → is_prime m ≡ false

@@ -7,9 +7,9 @@ use Rattle.words.specs.Checks.{Check, Outcome, Met}
 use Rattle.words.proofs.Checks.{value-met}
 use Rattle.words.proofs.Stages.{met-both, both-met, rest-outcome}
 use Rattle.group.specs.Table.{groups_of, table_checks}
-use Rattle.sharing.specs.Setting.{ProperSetting, setting_in, round_figures, round_checks, figures_outcome}
+use Rattle.sharing.specs.Setting.{ProperSetting, setting_in, round_figures, round_checks, figures_outcome, setting_outcome}
 use Rattle.sharing.specs.declared.Setting.{Setting}
-use Rattle.sharing.proofs.Rounds.{round-proper}
+use Rattle.sharing.proofs.Rounds.{figures-setting, round-proper}
 use Rattle.rulings.specs.Files.{set_checks, round_in, file_checks, setting_checks, files_outcome}
 
 module _ (T s : List ℕ) where
@@ -20,6 +20,10 @@ module _ (T s : List ℕ) where
   pub files-passed : Met (file_checks T s) → figures_outcome T (round_in s) ≡ files_outcome T s
   unfolding figures_outcome files_outcome
   files-passed m = rest-outcome (file_checks T s) figures m (setting_in T (round_in s))
+
+  -- as over the table and the round
+  pub files-round : Met (file_checks T s) → files_outcome T s ≡ setting_outcome T (round_in s)
+  files-round m = sym (files-passed m) ∙ figures-setting T (round_in s) (met-both (table_checks T) (set_checks s) m).0
 
   -- all that is tested before the board, by the table and the round of the set
   pub checked-round : Met (setting_checks T s) → Met (round_checks T (round_in s))

@@ -45,6 +45,13 @@ pub powers_end : (p k : ℕ) (vs es : List ℕ) → length vs ≤ k → powers_p
 unfolding powers_product
 powers_end p k vs es h = rw (drop_all k vs h)
 
+pub powers-next : (p : ℕ) (vs es : List ℕ) (k : ℕ) → 0 < k → k ≤ length vs → length es ≡ length vs
+    → mul p (pow p (get_or vs (k - 1) 0) (get_or es (k - 1) 0)) (powers_product p (drop k vs) (drop k es)) ≡ powers_product p (drop (k - 1) vs) (drop (k - 1) es)
+unfolding powers_product
+powers-next p vs es k h b s =
+    let c : k ≤ length es = omega arith in
+    rw (drop-back vs k 0 h b, drop-back es k 0 h c)
+
 pub powers_back : (p k n : ℕ) (vs : List ℕ) (f : ℕ → ℕ) (is : List ℕ) → n ≡ k + 1 → k < length is → length is ≡ length vs
     → mul p (pow p (get_or vs k 0) (f (get_or is k 0))) (powers_product p (drop n vs) (drop n (map f is))) ≡ powers_product p (drop k vs) (drop k (map f is))
 unfolding powers_product
@@ -53,11 +60,21 @@ powers_back p k n vs f is o h e =
     let m : k < length (map f is) = omega (arith, map-length f is) in
     rw (o, drop-next vs k 0 l, drop-next (map f is) k 0 m, map_at f is k 0 0 h)
 
--- the same where the exponents are the weights
+-- ---- the weights
+module _ (S : Setting) (ds : List ℕ) where
+  pub weights-length : length (weights_of S ds) ≡ S.n
+  unfolding weights_of
+  weights-length = map-length (weight_at S ds) (members S.n) ∙ up-length 1 S.n
+
+  pub weights-at : (j : ℕ) → 0 < j → j ≤ S.n → get_or (weights_of S ds) (j - 1) 0 ≡ weight_at S ds j
+  unfolding weights_of
+  weights-at j h l =
+      map_at (weight_at S ds) (members S.n) (j - 1) 0 0 (omega (arith, up-length 1 S.n)) ∙ ap (weight_at S ds) (member-at S.n j h l)
+
+-- the product of the powers where they are the exponents
 pub weights_back : (S : Setting) (ds vs : List ℕ) (i : ℕ) → 0 < i → i ≤ S.n → length vs ≡ S.n
     → mul S.group.p (pow S.group.p (get_or vs (i - 1) 0) (weight_at S ds i)) (powers_product S.group.p (drop i vs) (drop i (weights_of S ds)))
     ≡ powers_product S.group.p (drop (i - 1) vs) (drop (i - 1) (weights_of S ds))
-unfolding weights_of
 weights_back S ds vs i h l e =
-    ap (λ (j : ℕ). mul S.group.p (pow S.group.p (get_or vs (i - 1) 0) (weight_at S ds j)) (powers_product S.group.p (drop i vs) (drop i (map (weight_at S ds) (members S.n))))) (sym (member-at S.n i h l))
-    ∙ powers_back S.group.p (i - 1) i vs (weight_at S ds) (members S.n) (omega arith) (omega (arith, up-length 1 S.n)) (up-length 1 S.n ∙ sym e)
+    ap (λ (x : ℕ). mul S.group.p (pow S.group.p (get_or vs (i - 1) 0) x) (powers_product S.group.p (drop i vs) (drop i (weights_of S ds)))) (sym (weights-at S ds i h l))
+    ∙ powers-next S.group.p vs (weights_of S ds) i h (omega arith) (weights-length S ds ∙ sym e)

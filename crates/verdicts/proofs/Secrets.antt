@@ -6,13 +6,13 @@ use mathlib.Core.List.{List}
 use mathlib.Core.Logic.{inl}
 use Prim.Native.Nat.{ℕ, ◌<◌, ◌≤◌}
 use native.Mathlib.Omega.{arith}
-use borrow.Author.Tests.{le-leb, lt-leb}
+use borrow.Author.Tests.{ltb-true, le-leb, lt-leb}
 use lib.ListN.{length, take, length-take}
-use lib.Dec.{leb}
+use lib.Dec.{leb, ltb}
 use Rattle.words.specs.Lists.{Below, map, all, up_from}
 use Rattle.words.specs.Bytes.{records_in, record_at}
 use Rattle.words.proofs.Lists.{All-to, All-take, map-all, map-length, up-length, filled-front}
-use Rattle.words.proofs.Tests.{true-all, pick_true, pick-false}
+use Rattle.words.proofs.Tests.{true-all, and-true, pick_true, pick-false}
 use Rattle.group.specs.Element.{is_element}
 use Rattle.sharing.specs.Setting.{members}
 use Rattle.sharing.specs.Answer.{recovered}
@@ -27,12 +27,12 @@ use Rattle.dealing.proofs.Judged.{dealing-exactly, accepted-passes}
 use Rattle.share.specs.Share.{opened_form, is_dealer}
 use Rattle.share.specs.declared.ShareForm.{ShareForm}
 use Rattle.board.specs.Search.{filter}
-use Rattle.board.specs.Board.{keys_in, lines_of}
+use Rattle.board.specs.Board.{keys_in, lines_of, opening_place}
 use Rattle.board.proofs.Searches.{filter-up}
 use Rattle.board.specs.Sorted.{Sorted}
 use Rattle.board.proofs.Order.{reached, shapes, sorted}
 use Rattle.verdicts.specs.Shares.{Judges, is_share_in, shares_in, from_lowest}
-use Rattle.verdicts.specs.Verdict.{commitments_of, encrypted_of}
+use Rattle.verdicts.specs.Verdict.{commitments_of, encrypted_of, is_opened}
 use Rattle.verdicts.specs.Posted.{LinesOn, SharesOn}
 use Rattle.verdicts.specs.Gathered.{held_of, lowest_in}
 use Rattle.verdicts.specs.declared.GatheredShares.{GatheredShares}
@@ -142,3 +142,8 @@ module _ (S : Setting) (b : List ℕ) (d : ℕ) where
 
   pub lines_commitments : LinesOn S b d → {vs : List ℕ} → vs ≡ commitments_of S b d → Commitments S vs
   lines_commitments L v = subst (Commitments S) (sym v) (accepted-passes S L.proper d (keys_in S.n b) (lines_of b d) L.accepted).0
+
+  -- a right opening lies on the board
+  pub opening-inside : is_opened S b d ≡ true → opening_place b d < records_in b
+  unfolding is_opened
+  opening-inside e = ltb-true _ _ (and-true (ltb (opening_place b d) (records_in b)) _ e).0

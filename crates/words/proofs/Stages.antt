@@ -12,7 +12,7 @@ use Rattle.std.specs.Prelude.{Ok, Err}
 use Rattle.words.specs.Claims.{StagesNumber, StagesOutcome, StagesChoice, StagesMet}
 use Rattle.words.proofs.Lists.{All-append, All-parts}
 use Rattle.words.proofs.Tests.{pick_true, pick_same}
-use Rattle.words.proofs.Checks.{if-met, if-unmet, value-met, value-exactly, refused-exactly}
+use Rattle.words.proofs.Checks.{if-met, if-unmet, first-number, value-met, value-exactly, refused-exactly}
 
 -- ---- the claims
 pub stages-choice : StagesChoice
@@ -50,6 +50,9 @@ stages-met cs ds = (met-both cs ds, λ m. both-met cs ds m.0 m.1)
 
 -- ---- a stage that is met: the rest decides
 module _ (cs ds : List Check) (m : Met cs) where
+  pub rest-number : refusal ds ≡ refusal (cs ++ ds)
+  rest-number = sym (stages-number cs ds ∙ if-met (refusal ds) (refusal cs) cs m)
+
   pub rest-outcome : {A : Type 0} (a : A) → outcome ds a ≡ outcome (cs ++ ds) a
   rest-outcome {A} a = sym (stages-outcome A cs ds a ∙ if-met (outcome ds a) (outcome cs a) cs m)
 
@@ -74,6 +77,9 @@ front-first [] ds k u = absurd u
 front-first (c ∷ cs) ds k u = ⊎_elim inl (λ w. inr (w.0, front-first cs ds k w.1)) u
 
 module _ (cs ds : List Check) (k : Refusal) (u : FirstUnmet k cs) where
+  pub front-number : number k ≡ refusal (cs ++ ds)
+  front-number = sym (first-number (cs ++ ds) k (front-first cs ds k u))
+
   pub front-outcome : {A : Type 0} (a : A) → Err k ≡ outcome (cs ++ ds) a
   front-outcome {A} a =
       sym (stages-outcome A cs ds a ∙ if-unmet (outcome ds a) (outcome cs a) cs k u ∙ (refused-exactly A cs a k).1 u)
@@ -102,6 +108,9 @@ module _ (cs : List Check) where
 
   -- it is the first stage
   module _ (ds : List Check) {k : Refusal} (e : Err k ≡ outcome cs (tt {0})) where
+    pub stage-number : number k ≡ refusal (cs ++ ds)
+    stage-number = front-number cs ds k (stage-first e)
+
     pub stage-refused : {A : Type 0} (a : A) → Err k ≡ outcome (cs ++ ds) a
     stage-refused a = front-outcome cs ds k (stage-first e) a
 

@@ -51,6 +51,14 @@ module _ (a b x y : ℕ) where
   pub true-equal : a ≡ b → x ≡ y → eqb a b && eqb x y ≡ true
   true-equal e f = true-and (eqb a b) (eqb x y) (eq-eqb a b e) (eq-eqb x y f)
 
+-- by branches: the second test runs where the first holds, and else the first is the value
+module _ {a b : Bool} (t : Bool) where
+  pub and-held : a ≡ true → b ≡ t → b ≡ a && t
+  and-held h e = e ∙ ap (λ (x : Bool). x && t) (sym h)
+
+  pub and-failed : a ≡ false → b ≡ a → b ≡ a && t
+  and-failed h e = e ∙ h ∙ ap (λ (x : Bool). x && t) (sym h)
+
 -- ---- choice
 module _ {A : Type 0} (b : Bool) (x y : A) where
   pub pick_true : b ≡ true → pick b x y ≡ x
