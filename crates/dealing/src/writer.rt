@@ -17,8 +17,11 @@ use records::check_keys;
 use sharing::{Round, Setting, is_member, setting_of};
 use words::Refusal;
 
+// This function and the two behind it are not inlined: built in, each would lay its array on the stack twice.
+
 // The value of the polynomial f at each member, and 0 behind them.
 // Internal: callers ensure that q is not 0 and that n is at most 31.
+#[inline(never)]
 fn values(gr: Group, f: &[u32], n: usize) -> [u32; 31]
     requires { (0 < gr.q) × (n ≤ 31) }
     ensures { result ≡ filled 31 (map (value_at gr.q f.now) (members n)) }
@@ -28,6 +31,7 @@ fn values(gr: Group, f: &[u32], n: usize) -> [u32; 31]
 
 // Each member's base to his exponent, and 0 behind these powers.
 // Internal: callers ensure that p is above 1, n bases and n exponents, and that n is at most 31.
+#[inline(never)]
 #[tactic(auto, using(words::proofs::Lists::entry_at))]
 fn raised(gr: Group, bases: &[u32], xs: &[u32], n: usize) -> [u32; 31]
     requires { (1 < gr.p) × (n ≤ 31) × (n ≤ length bases.now) × (n ≤ length xs.now) }
@@ -38,6 +42,7 @@ fn raised(gr: Group, bases: &[u32], xs: &[u32], n: usize) -> [u32; 31]
 
 // The response of each member to the challenge c, from the polynomial's value x and the nonce w of each, and 0 behind them.
 // Internal: callers ensure nonces below q, at most 31.
+#[inline(never)]
 #[tactic(auto, using(words::proofs::Lists::entry_at))]
 fn responses(gr: Group, xs: &[u32; 31], ws: &[u32], c: Exponent) -> [u32; 31]
     requires { (length ws.now ≤ 31) × (Below gr.q ws.now) }

@@ -1,14 +1,14 @@
 -- Proofs of what specs/Claims.antt states. Two facts carry them: an answer goes by cases on its outcome, and no refusal has the number 0.
-use mathlib.Core.Path.{◌≡◌, refl, sym, ap, ◌∙◌}
+use mathlib.Core.Path.{◌≡◌, refl, sym, ap}
 use mathlib.Core.Bool.{Bool, true, false}
 use mathlib.Core.List.{List, [], ◌∷◌, ◌++◌}
-use Prim.Native.Nat.{ℕ, ◌<◌}
+use Prim.Native.Nat.{ℕ}
 use native.Mathlib.Omega.{arith}
 use lib.ListN.{length}
 use Rattle.words.specs.Lists.{map}
 use Rattle.words.specs.Choice.{pick}
 use Rattle.words.specs.Numbers.{number}
-use Rattle.words.specs.Checks.{Check, Outcome, outcome, refusal, FirstUnmet}
+use Rattle.words.specs.Checks.{Check, Outcome, outcome, refusal}
 use Rattle.words.proofs.NumberLaws.{positive}
 use Rattle.group.specs.declared.Element.{Element}
 use Rattle.sharing.specs.Setting.{setting_in, round_checks, judged}
@@ -17,9 +17,8 @@ use Rattle.board.specs.Board.{lines_checks, lines_outcome, lines_part, lines_at}
 use Rattle.verdicts.specs.Draw.{draw_outcome}
 use Rattle.rulings.proofs.Theorems.{judgement-exactly}
 use Rattle.tadlovimpe.specs.Figures.{number_of, answer_of, part_of, verdict_of}
-use Rattle.tadlovimpe.specs.Claims.{NumberExactly, AnswerRefused, PartRefused, PartExactly, BoardRefused, BoardUnmet}
+use Rattle.tadlovimpe.specs.Claims.{NumberExactly, NumberBeside, AnswerRefused, PartRefused, PartExactly, BoardRefused, BoardUnmet}
 use Rattle.std.specs.Prelude.{Ok, Err}
-use Rattle.words.specs.declared.refusal.Refusal.{Refusal}
 
 -- ---- by cases on the outcome
 pub number-exactly : NumberExactly
@@ -30,6 +29,17 @@ number-exactly A (c ∷ cs) a = split c.met (number-exactly A cs a)
         → number_of {A = A} (pick b (outcome cs a) (Err c.by)) ≡ pick b (refusal cs) (number c.by)
     split true e = e
     split false e = refl
+
+answer-number : (o : Outcome Element) → (answer_of o).refusal ≡ number_of o
+answer-number (Ok v) = refl
+answer-number (Err k) = refl
+
+part-number : (o : Outcome (Unit {0})) (start bytes : ℕ) → (part_of o start bytes).refusal ≡ number_of o
+part-number (Ok _) start bytes = refl
+part-number (Err k) start bytes = refl
+
+pub number-beside : NumberBeside
+number-beside = (answer-number, part-number, λ J T R b. answer-number (draw_outcome J T R b))
 
 pub answer-refused : AnswerRefused
 answer-refused (Ok v) n = absurd (n refl)

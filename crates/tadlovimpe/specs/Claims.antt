@@ -9,13 +9,21 @@ use Rattle.sharing.specs.Setting.{setting_in, round_checks}
 use Rattle.sharing.specs.declared.Round.{Round}
 use Rattle.board.specs.Board.{board_checks, lines_outcome}
 use Rattle.verdicts.specs.Shares.{Judges}
-use Rattle.tadlovimpe.specs.Figures.{number_of, answer_of, part_on, board_on}
+use Rattle.verdicts.specs.Draw.{draw_outcome}
+use Rattle.tadlovimpe.specs.Figures.{number_of, answer_of, part_of, part_on, board_on}
 use Rattle.tadlovimpe.specs.declared.BoardAnswer.{BoardAnswer}
 
 -- ---- one number
--- what C is handed is the number of the first check that is not met, 0 where every one is
+-- the number of what a list of checks answers is that of the first that is not met, 0 where every one is
 abbrev pub NumberExactly : Type 1
 NumberExactly = (A : Type 0) (cs : List Check) (a : A) → number_of (outcome cs a) ≡ refusal cs
+
+-- an answer of more than one figure has the number of its outcome
+abbrev pub NumberBeside : Type 0
+NumberBeside =
+    ((o : Outcome Element) → (answer_of o).refusal ≡ number_of o)
+    × ((o : Outcome (Unit {0})) (start bytes : ℕ) → (part_of o start bytes).refusal ≡ number_of o)
+    × ((J : Judges) (T : List ℕ) (R : Round) (b : List ℕ) → (board_on J T R b).refusal ≡ number_of (draw_outcome J T R b))
 
 -- ---- one value
 abbrev pub AnswerRefused : Type 0

@@ -57,9 +57,9 @@ pub extern "C" fn tadlovimpe_dealer_lines(
 pub extern "C" fn tadlovimpe_judge_board(table: &[u8], round: Round, board: &[u8]) -> BoardAnswer
     ensures { result ≡ board_on judges table.now round board.now }
 {
-    match rulings::judge_board(table, round, board) {
+    match &rulings::judge_board(table, round, board) {
         Err(refusal) => BoardAnswer {
-            refusal: u32::from(refusal),
+            refusal: u32::from(*refusal),
             value: 0,
             accepted: 0,
             verdicts: [VerdictFigures { kind: 0, value: 0 }; 31],

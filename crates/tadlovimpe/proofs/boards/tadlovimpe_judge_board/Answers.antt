@@ -1,5 +1,5 @@
 -- `tadlovimpe_judge_board` meets its contract: what judge_board answers, as figures.
-use mathlib.Core.Path.{◌≡◌, sym, ap, ◌∙◌, subst}
+use mathlib.Core.Path.{ap, ◌∙◌, subst}
 use Rattle.std.specs.Prelude.{Ok, Err}
 use Rattle.words.specs.Lists.{map}
 use Rattle.words.specs.Checks.{Outcome}
