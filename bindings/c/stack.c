@@ -1,7 +1,7 @@
 /* Prints how many bytes of stack each operation takes on its largest figures: group 3, n = 31, t = 16, a board with everything posted
  * but openings, another with added shares in the place of opened ones, 4,096 plots, a chain of 1,023 links. Each is called in a thread
  * whose stack was filled before; what the call has changed is counted, less what an empty call changes.
- * From the root: cc -std=c11 -pthread -Iinclude bindings/c/stack.c target/staticlib/libtadlovimpe.a -o stack && ./stack */
+ * From the root: cc -std=c11 -O2 -pthread -Iinclude bindings/c/stack.c target/staticlib/libtadlovimpe.a -o stack && ./stack */
 #define _GNU_SOURCE
 #include "tadlovimpe.h"
 #include <pthread.h>
