@@ -17,7 +17,7 @@ use records::check_keys;
 use sharing::{Round, Setting, is_member, setting_of};
 use words::Refusal;
 
-// This function and the two behind it are not inlined: built in, each would lay its array on the stack twice.
+// `values`, `raised` and `responses` are not inlined: built into put_dealing, their arrays are kept more than once, in 560 bytes of stack.
 
 // The value of the polynomial f at each member, and 0 behind them.
 // Internal: callers ensure that q is not 0 and that n is at most 31.

@@ -1,5 +1,5 @@
--- What is claimed of the answers that have more than one figure: on a refusal the others are 0, but for the count and the verdicts of a
--- board that was judged. The proofs are in proofs/Refusals.antt.
+-- What is claimed of the answers as figures: the number is that of the outcome; and where there are more figures, on a refusal the others
+-- are 0, but for the count and the verdicts of a board that was judged. The proofs are in proofs/Refusals.antt.
 use Rattle.std.specs.Prelude.{◌≡◌, List, ◌++◌, ◌↔◌, ℕ, replicate, Ok}
 use Rattle.words.specs.Numbers.{number}
 use Rattle.words.specs.Checks.{Check, Outcome, outcome, refusal, FirstUnmet}
